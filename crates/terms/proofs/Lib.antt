@@ -1,0 +1,5 @@
+pub mod Walks
+pub mod Tests
+pub mod Padded
+pub mod Named
+pub mod Numbered

@@ -1,0 +1,7 @@
+pub mod Ranges
+pub mod Padding
+pub mod Decimals
+pub mod Digits
+pub mod ErrorCodes
+pub mod Points
+pub mod Refusals
