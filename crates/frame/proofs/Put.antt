@@ -1,0 +1,62 @@
+-- What the writer leaves in the buffer.
+use mathlib.Core.Path.{_≡_, refl, sym, ap, _∙_}
+use mathlib.Core.List.{List, [], _∷_, _++_, append-assoc}
+use Prim.Native.Nat.{ℕ, suc, _+_, _-_, _*_, _≤_, _<_}
+use native.Mathlib.Omega.{arith}
+use lib.ListN.{length, getD, set, take, drop}
+use borrow.Rule.Slice.PartMut.{putMid}
+use Rattle.std.proofs.shelf.Lists.{take-append-drop, drop-append-le, drop-drop, drop-at, length-append, length-drop, length-push, length-take-le, set-at, take-all, take-more}
+use Rattle.terms.specs.Points.{pointNumber}
+use Rattle.frame.specs.Items.{modeNumber, itemBytes}
+use Rattle.frame.specs.declared.item.Item.{Item}
+use Rattle.frame.proofs.Spelling.{blank, drop-two, itemBytes-push, length-itemBytes}
+
+-- a count and as many bytes behind it
+pub count-put : (out ys ds bytes : List ℕ) → 1 ≤ length out → ys ≡ ds → ds ≡ bytes → putMid 1 (1 + length ds - 1) (set out 0 (length ds)) ys ≡ length bytes ∷ (bytes ++ drop (1 + length ds) out)
+count-put [] ys ds bytes l y b = absurd (omega arith)
+count-put (x ∷ o) ys ds bytes l y b =
+    let less : 1 + length ds - 1 ≡ length ds = omega arith in
+    let more : suc (length ds) ≡ 1 + length ds = omega arith in
+    (λ j. length (b j) ∷ ((y ∙ b) j ++ drop (less j) o)) ∙ ap (λ k. length bytes ∷ (bytes ++ drop k (x ∷ o))) more
+
+set-two : (p rest : List ℕ) (u v a b n : ℕ) → length p ≡ n → set (set (p ++ u ∷ v ∷ rest) n a) (n + 1) b ≡ (p ++ a ∷ b ∷ []) ++ rest
+set-two p rest u v a b n e =
+    ap (λ l. set l (n + 1) b) (set-at p u (v ∷ rest) a n e ∙ sym (append-assoc p (a ∷ []) (v ∷ rest))) ∙
+    set-at (p ++ a ∷ []) v rest b (n + 1) (length-push p a ∙ ap (λ k. k + 1) e) ∙ append-assoc p (a ∷ []) (b ∷ rest) ∙
+    sym (append-assoc p (a ∷ b ∷ []) rest)
+
+-- one more item is written
+pub put-more : (xs : List Item) (was o : List ℕ) (i a b : ℕ) → i < length xs → 2 * i + 1 < length was → o ≡ itemBytes (take i xs) ++ drop (2 * i) was → a ≡ pointNumber (getD xs i blank .point) → b ≡ modeNumber (getD xs i blank .mode) → set (set o (2 * i) a) (2 * i + 1) b ≡ itemBytes (take (i + 1) xs) ++ drop (2 * (i + 1)) was
+put-more xs was o i a b l h e p m =
+    let size : length (itemBytes (take i xs)) ≡ 2 * i = length-itemBytes (take i xs) ∙ ap (λ k. 2 * k) (length-take-le i xs (omega arith)) in
+    ap (λ l. set (set l (2 * i) a) (2 * i + 1) b) (e ∙ ap (λ l. itemBytes (take i xs) ++ l) (drop-two was i h)) ∙
+    set-two (itemBytes (take i xs)) (drop (2 * (i + 1)) was) _ _ a b (2 * i) size ∙
+    (λ j. (itemBytes (take i xs) ++ p j ∷ m j ∷ []) ++ drop (2 * (i + 1)) was) ∙
+    ap (λ l. l ++ drop (2 * (i + 1)) was) (sym (ap itemBytes (take-more xs i blank l) ∙ itemBytes-push (take i xs) (getD xs i blank)))
+
+pub put-all : (xs : List Item) (was o : List ℕ) (i : ℕ) → i ≡ length xs → o ≡ itemBytes (take i xs) ++ drop (2 * i) was → o ≡ itemBytes xs ++ drop (2 * length xs) was
+put-all xs was o i n e =
+    e ∙ (λ j. itemBytes (take (n j) xs) ++ drop (2 * n j) was) ∙ ap (λ l. itemBytes l ++ drop (2 * length xs) was) (take-all (length xs) xs (omega arith))
+
+set-six : (o : List ℕ) (a b c d e f : ℕ) → 6 ≤ length o → set (set (set (set (set (set o 0 a) 1 b) 2 c) 3 d) 4 e) 5 f ≡ a ∷ b ∷ c ∷ d ∷ e ∷ f ∷ drop 6 o
+set-six [] a b c d e f h = absurd (omega arith)
+set-six (_ ∷ []) a b c d e f h = absurd (omega arith)
+set-six (_ ∷ _ ∷ []) a b c d e f h = absurd (omega arith)
+set-six (_ ∷ _ ∷ _ ∷ []) a b c d e f h = absurd (omega arith)
+set-six (_ ∷ _ ∷ _ ∷ _ ∷ []) a b c d e f h = absurd (omega arith)
+set-six (_ ∷ _ ∷ _ ∷ _ ∷ _ ∷ []) a b c d e f h = absurd (omega arith)
+set-six (_ ∷ _ ∷ _ ∷ _ ∷ _ ∷ _ ∷ o) a b c d e f h = refl
+
+-- what the argument's part leaves, and what stands behind that part
+rest : (o : List ℕ) (r : ℕ) → 34 ≤ length o → r ≤ 34 → drop r (take 34 o) ++ drop 34 o ≡ drop r o
+rest o r l h = sym (drop-append-le r (take 34 o) (drop 34 o) (rw length-take-le h)) ∙ ap (drop r) (take-append-drop 34 o)
+
+-- the head is written before an argument that stands already
+pub head-put : (out ys arg : List ℕ) (a b c d e f r : ℕ) → 40 ≤ length out → r ≤ 34 → ys ≡ arg ++ drop r (take 34 (drop 6 out)) → set (set (set (set (set (set (putMid 6 34 out ys) 0 a) 1 b) 2 c) 3 d) 4 e) 5 f ≡ a ∷ b ∷ c ∷ d ∷ e ∷ f ∷ (arg ++ drop (6 + r) out)
+head-put out ys arg a b c d e f r l h y =
+    let six : length (take 6 out) ≡ 6 = length-take-le 6 out (omega arith) in
+    let long : 34 ≤ length (drop 6 out) = rw length-drop (omega arith) in
+    set-six (putMid 6 34 out ys) a b c d e f (rw length-append (omega arith)) ∙
+    ap (λ k. a ∷ b ∷ c ∷ d ∷ e ∷ f ∷ k)
+    (drop-at (take 6 out) (ys ++ drop 34 (drop 6 out)) 6 six ∙ ap (λ k. k ++ drop 34 (drop 6 out)) y ∙ append-assoc arg _ _ ∙
+    ap (λ k. arg ++ k) (rest (drop 6 out) r long h ∙ drop-drop r 6 out))

@@ -1,0 +1,40 @@
+-- Where the values of an argument are at fault, past a length that is right.
+use mathlib.Core.Path.{_≡_, refl, sym, ap, _∙_}
+use mathlib.Core.Bool.{Bool, true, false, cond, _&&_}
+use mathlib.Core.List.{List, [], _∷_}
+use Prim.Native.Nat.{ℕ, _+_, _-_, _*_, _%_, _≤_, _<_}
+use native.Mathlib.Omega.{arith}
+use lib.Dec.{leb, eqb}
+use lib.ListN.{length, getD, take, drop, length-drop}
+use Rattle.std.proofs.shelf.Lists.{take-rest}
+use Rattle.std.proofs.shelf.Tests.{le-leb, eq-eqb, eqb-false, and-from, cond-true, cond-false}
+use Rattle.terms.specs.Padding.{all}
+use Rattle.terms.specs.Decimals.{isDigit, areDigits}
+use Rattle.frame.specs.Items.{itemBytes, spelt, isItem, someTwice}
+use Rattle.frame.specs.Format.{addressLength, addressFault, itemsLength, itemsFault}
+use Rattle.frame.specs.declared.item.Item.{Item}
+use Rattle.frame.proofs.Spelling.{item-exists, length-itemBytes}
+
+right-left : (x y : Bool) → x ≡ true → (x && y) ≡ false → y ≡ false
+right-left true y e f = f
+right-left false y e f = absurd (let z : _≡_ {A = ℕ} 0 1 = cc in omega arith)
+
+pub address-length : (bs : List ℕ) → 2 ≤ length bs → length bs ≤ 16 → getD bs 0 0 + 1 ≡ length bs → addressLength bs ≡ true
+address-length bs low high n = and-from _ _ (and-from _ _ (le-leb 2 _ low) (le-leb _ 16 high)) (eq-eqb _ _ n)
+
+pub address-value : (bs : List ℕ) → 2 ≤ length bs → length bs ≤ 16 → getD bs 0 0 + 1 ≡ length bs → areDigits (take (length bs - 1) (drop 1 bs)) ≡ false → addressFault bs ≡ 8
+address-value bs low high n e =
+    let few : length (drop 1 bs) ≤ 15 = rw length-drop (omega arith) in
+    cond-true _ _ _ (address-length bs low high n) ∙ cond-false _ _ _ (right-left _ _ (le-leb _ 15 few) (ap areDigits (sym (take-rest bs 1)) ∙ e))
+
+items-exist : (xs : List Item) → all isItem (spelt (itemBytes xs)) ≡ true
+items-exist [] = refl
+items-exist (x ∷ xs) = and-from _ _ (item-exists x) (items-exist xs)
+
+-- of items that are there and not too many, only a point that comes twice is a fault
+pub items-twice : (xs ys : List Item) → ys ≡ xs → length ys ≤ 17 → eqb (length ys) 0 ≡ false → (b : Bool) → b ≡ someTwice (spelt (itemBytes ys)) → itemsFault (itemBytes xs) ≡ cond b 9 0
+items-twice xs ys e few some b t =
+    let size : length (itemBytes xs) ≡ 2 * length ys = length-itemBytes xs ∙ ap (λ l. 2 * length l) (sym e) in
+    let low : 2 ≤ length (itemBytes xs) = omega (arith, eqb-false _ _ some) in
+    let right : itemsLength (itemBytes xs) ≡ true = and-from _ _ (and-from _ _ (le-leb 2 _ low) (le-leb _ 34 (omega arith))) (eq-eqb _ _ (omega arith)) in
+    cond-true _ _ _ right ∙ cond-true _ _ _ (items-exist xs) ∙ sym (ap (λ u. cond u 9 0) (t ∙ ap (λ l. someTwice (spelt (itemBytes l))) e))

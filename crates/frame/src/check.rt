@@ -1,0 +1,123 @@
+//! What reader and writer both ask of a frame, in the order of the faults.
+ghost use mathlib.Core.Path.{_≡_};
+ghost use mathlib.Core.Bool.{cond};
+ghost use mathlib.Core.List.{List};
+ghost use Prim.Native.Nat.{ℕ};
+ghost use Rattle.std.specs.Results.{Cases};
+ghost use Rattle.std.specs.declared.option.Option.the-variants.{Some};
+ghost use Rattle.std.specs.declared.result.Result.the-variants.{Ok, Err};
+ghost use Rattle.terms.specs.Points.{pointNumber};
+ghost use Rattle.terms.specs.Refusals.{refusalNumber};
+ghost use Rattle.frame.specs.Items.{itemBytes, spelt, hasPoint, someTwice};
+ghost use Rattle.frame.specs.Operations.{addressBytes, argument, codeIn, itemsIn};
+ghost use Rattle.frame.specs.Format.{addressFault, argumentFault, itemsFault, contentFault, frameFault, operationFault};
+use crate::code::Code;
+use crate::item::Item;
+use crate::items::Items;
+use crate::limits::LAST_CAUSE;
+use crate::limits::LAST_DIALOGUE;
+use crate::limits::LAST_INVOKE;
+use crate::limits::MOST_TICKS;
+use crate::operation::Frame;
+use crate::operation::Operation;
+use terms::digits::Digits;
+use terms::point::Point;
+use terms::point::PointPartialEq;
+use terms::refusal::Refusal;
+
+/// The operation's code, if dialogue, operation and invoke number are ones that a frame can carry.
+pub(crate) fn check_head(dialogue: u8, code: Option<Code>, invoke: u8) -> Result<Code, Refusal>
+    ensures { λ r. ⌜ Cases r (λ k. (code ≡ Some k) × ((arg : List ℕ) → contentFault dialogue code invoke arg ≡ argumentFault k arg)) (λ e. (arg : List ℕ) → contentFault dialogue code invoke arg ≡ refusalNumber e) ⌝ }
+{
+    if dialogue > LAST_DIALOGUE {
+        return Err(Refusal::Dialogue);
+    }
+    let Some(code) = code else {
+        return Err(Refusal::Operation);
+    };
+    if invoke > LAST_INVOKE {
+        return Err(Refusal::Invoke);
+    }
+    Ok(code)
+}
+
+/// Whether one of the items is of this point.
+fn has_point(point: Point, items: &[Item]) -> bool
+    ensures { λ r. ⌜ r ≡ hasPoint (pointNumber point) (spelt (itemBytes (now (items .entry)))) ⌝ }
+{
+    for item in items {
+        if item.point == point {
+            return true;
+        }
+    }
+    false
+}
+
+/// Whether two of the items are of one point.
+fn some_twice(items: &[Item]) -> bool
+    ensures { λ r. ⌜ r ≡ someTwice (spelt (itemBytes (now (items .entry)))) ⌝ }
+{
+    let n = items.len();
+    for i in 0..n {
+        if has_point(items[i].point, &items[i + 1..n]) {
+            return true;
+        }
+    }
+    false
+}
+
+/// An address has at least one digit.
+fn check_address(address: &Digits) -> Result<(), Refusal>
+    ensures { λ r. ⌜ Cases r (λ _. addressFault (addressBytes (now (address .entry))) ≡ 0) (λ e. addressFault (addressBytes (now (address .entry))) ≡ refusalNumber e) ⌝ }
+{
+    if address.as_ascii().is_empty() {
+        Err(Refusal::ArgumentLength)
+    } else {
+        Ok(())
+    }
+}
+
+/// There is at least one item, and no point comes twice.
+fn check_items(items: &Items) -> Result<(), Refusal>
+    ensures { λ r. ⌜ Cases r (λ _. itemsFault (itemBytes (itemsIn (now (items .entry)))) ≡ 0) (λ e. itemsFault (itemBytes (itemsIn (now (items .entry)))) ≡ refusalNumber e) ⌝ }
+{
+    let slice = items.as_slice();
+    if slice.is_empty() {
+        Err(Refusal::ArgumentLength)
+    } else if some_twice(slice) {
+        Err(Refusal::PointTwice)
+    } else {
+        Ok(())
+    }
+}
+
+/// Whether a value is allowed.
+fn check_value(allowed: bool) -> Result<(), Refusal>
+    ensures { λ r. ⌜ r ≡ cond allowed (Ok tt) (Err Refusal.Value) ⌝ }
+{
+    if allowed { Ok(()) } else { Err(Refusal::Value) }
+}
+
+/// Whether the operation's argument is one that a frame can carry; the invoke number does not matter to it.
+pub(crate) fn check_argument(operation: &Operation) -> Result<(), Refusal>
+    ensures { λ r. ⌜ Cases r (λ _. operationFault (codeIn (now (operation .entry))) 0 (argument (now (operation .entry))) ≡ 0) (λ e. operationFault (codeIn (now (operation .entry))) 0 (argument (now (operation .entry))) ≡ refusalNumber e) ⌝ }
+{
+    match operation {
+        Operation::EstablishTemporaryConnection(address) => check_address(address),
+        Operation::Connect(address) => check_address(address),
+        Operation::ReleaseCall(cause) => check_value(1 <= *cause && *cause <= LAST_CAUSE),
+        Operation::RequestReportBcsmEvent(items) => check_items(items),
+        Operation::ResetTimer(ticks) => check_value(1 <= *ticks && *ticks <= MOST_TICKS),
+        Operation::Unknown => Err(Refusal::Operation),
+        _ => Ok(()),
+    }
+}
+
+/// The code of a frame's operation, if the frame can be written.
+pub(crate) fn check_frame(frame: &Frame) -> Result<Code, Refusal>
+    ensures { λ r. ⌜ Cases r (λ k. (codeIn (now (frame .entry) .operation) ≡ Some k) × (frameFault (now (frame .entry)) ≡ 0)) (λ e. frameFault (now (frame .entry)) ≡ refusalNumber e) ⌝ }
+{
+    let code = check_head(frame.dialogue, frame.operation.code(), frame.invoke)?;
+    check_argument(&frame.operation)?;
+    Ok(code)
+}

@@ -1,0 +1,44 @@
+//! The reader.
+ghost use mathlib.Core.Path.{_≡_};
+ghost use Prim.Native.Nat.{ℕ};
+ghost use Rattle.std.specs.Vec.{made};
+ghost use Rattle.frame.specs.Laws.{Written-only-as};
+ghost use Rattle.frame.specs.Promises.{Contains, Reads};
+use crate::arguments::operation;
+use crate::check::check_argument;
+use crate::check::check_head;
+use crate::code::Code;
+use crate::limits::HEAD_SIZE;
+use crate::limits::LONGEST_FRAME;
+use crate::limits::VERSION;
+use crate::operation::Frame;
+use terms::refusal::Refusal;
+
+/// The frame of what stands behind the version.
+fn content(dialogue: u8, number: u8, invoke: u8, bytes: &[u8]) -> Result<Frame, Refusal>
+    ensures { λ r. ⌜ Contains dialogue number invoke (now (bytes .entry)) r ⌝ }
+{
+    let code = check_head(dialogue, Code::from_number(number), invoke)?;
+    let operation = operation(code, bytes)?;
+    check_argument(&operation)?;
+    Ok(Frame {
+        dialogue,
+        invoke,
+        operation,
+    })
+}
+
+/// The frame that the bytes are, or their first fault.
+pub fn read(bytes: &[u8]) -> Result<Frame, Refusal>
+    ensures reads { λ r. ⌜ Reads (now (bytes .entry)) r ⌝ }
+    ensures one_spelling { λ r. ⌜ made r (λ f. Written-only-as f (now (bytes .entry))) ⌝ }
+{
+    let n = bytes.len();
+    if n < HEAD_SIZE || n > LONGEST_FRAME || 256 * bytes[0] as usize + bytes[1] as usize + 2 != n {
+        return Err(Refusal::FrameLength);
+    }
+    if bytes[2] != VERSION {
+        return Err(Refusal::Version);
+    }
+    content(bytes[3], bytes[4], bytes[5], &bytes[HEAD_SIZE..n])
+}
