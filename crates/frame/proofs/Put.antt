@@ -7,9 +7,10 @@ use lib.ListN.{length, getD, set, take, drop}
 use borrow.Rule.Slice.PartMut.{putMid}
 use Rattle.std.proofs.shelf.Lists.{take-append-drop, drop-append-le, drop-drop, drop-at, length-append, length-drop, length-push, length-take-le, set-at, take-all, take-more}
 use Rattle.terms.specs.Points.{pointNumber}
+use Rattle.terms.proofs.Twos.{drop-two}
 use Rattle.frame.specs.Items.{modeNumber, itemBytes}
 use Rattle.frame.specs.declared.item.Item.{Item}
-use Rattle.frame.proofs.Spelling.{blank, drop-two, itemBytes-push, length-itemBytes}
+use Rattle.frame.proofs.Spelling.{blank, itemBytes-push, length-itemBytes}
 
 -- a count and as many bytes behind it
 pub count-put : (out ys ds bytes : List ℕ) → 1 ≤ length out → ys ≡ ds → ds ≡ bytes → putMid 1 (1 + length ds - 1) (set out 0 (length ds)) ys ≡ length bytes ∷ (bytes ++ drop (1 + length ds) out)

@@ -1,11 +1,11 @@
 -- Items and the bytes that spell them: the steps of reading and of writing one more.
 use mathlib.Core.Path.{_≡_, refl, sym, ap, _∙_}
 use mathlib.Core.Bool.{Bool, true, false, _&&_}
-use mathlib.Core.List.{List, [], _∷_, _++_, append-assoc}
+use mathlib.Core.List.{List, [], _∷_, _++_}
 use Prim.Native.Nat.{ℕ, _+_, _-_, _*_, _/_, _%_, _≤_, _<_}
 use native.Mathlib.Omega.{arith}
 use lib.ListN.{length, getD, set, take, drop}
-use Rattle.std.proofs.shelf.Lists.{take-all, take-more, take-more-set, drop-more, length-take-le}
+use Rattle.std.proofs.shelf.Lists.{take-all, take-more-set, length-take-le}
 use Rattle.std.proofs.shelf.Tests.{and-from, and-left}
 use Rattle.std.specs.Options.{Cases}
 use Rattle.std.specs.declared.option.Option.{Option}
@@ -14,6 +14,7 @@ use Rattle.terms.specs.Padding.{all}
 use Rattle.terms.specs.Points.{pointNumber}
 use Rattle.terms.specs.declared.point.Point.the-variants.{OrigAttemptAuthorized}
 use Rattle.terms.proofs.Numbered.{point-exists}
+use Rattle.terms.proofs.Twos.{drop-two, take-two}
 use Rattle.frame.specs.Items.{modeNumber, isMode, itemBytes, spelt, isItem}
 use Rattle.frame.specs.Operations.{itemsIn}
 use Rattle.frame.specs.declared.item.Mode.{Mode}
@@ -42,26 +43,13 @@ length-itemBytes [] = refl
 length-itemBytes (x ∷ xs) = let more = length-itemBytes xs in omega arith
 
 module _ (bs : List ℕ) (i : ℕ) (l : 2 * i + 1 < length bs) where
-  next : 2 * i + 1 + 1 ≡ 2 * (i + 1)
-  next = omega arith
-
-  take-two : take (2 * (i + 1)) bs ≡ take (2 * i) bs ++ getD bs (2 * i) 0 ∷ getD bs (2 * i + 1) 0 ∷ []
-  take-two =
-      ap (λ n. take n bs) (sym next) ∙ take-more bs (2 * i + 1) 0 l ∙
-      ap (λ t. t ++ getD bs (2 * i + 1) 0 ∷ []) (take-more bs (2 * i) 0 (omega arith)) ∙ append-assoc (take (2 * i) bs) _ _
-
-  pub drop-two : drop (2 * i) bs ≡ getD bs (2 * i) 0 ∷ getD bs (2 * i + 1) 0 ∷ drop (2 * (i + 1)) bs
-  drop-two =
-      drop-more bs (2 * i) 0 (omega arith) ∙ ap (λ t. getD bs (2 * i) 0 ∷ t) (drop-more bs (2 * i + 1) 0 l) ∙
-      ap (λ n. getD bs (2 * i) 0 ∷ getD bs (2 * i + 1) 0 ∷ drop n bs) next
-
   -- one more item is read
   pub read-more : (xs : List Item) (x : Item) → i < length xs → pointNumber (x .point) ≡ getD bs (2 * i) 0 → modeNumber (x .mode) ≡ getD bs (2 * i + 1) 0 → itemBytes (take i xs) ≡ take (2 * i) bs → itemBytes (take (i + 1) (set xs i x)) ≡ take (2 * (i + 1)) bs
   read-more xs x h p m e =
-      ap itemBytes (take-more-set xs i x h) ∙ itemBytes-push (take i xs) x ∙ (λ j. e j ++ p j ∷ m j ∷ []) ∙ sym take-two
+      ap itemBytes (take-more-set xs i x h) ∙ itemBytes-push (take i xs) x ∙ (λ j. e j ++ p j ∷ m j ∷ []) ∙ sym (take-two bs i l)
 
   spelt-here : all isItem (spelt (drop (2 * i) bs)) ≡ (isItem (getD bs (2 * i) 0, getD bs (2 * i + 1) 0) && all isItem (spelt (drop (2 * (i + 1)) bs)))
-  spelt-here = ap (λ t. all isItem (spelt t)) drop-two
+  spelt-here = ap (λ t. all isItem (spelt t)) (drop-two bs i l)
 
   module _ (inv : all isItem (spelt (drop (2 * i) bs)) ≡ all isItem (spelt bs)) where
     pub spelt-step : (x : Item) → pointNumber (x .point) ≡ getD bs (2 * i) 0 → modeNumber (x .mode) ≡ getD bs (2 * i + 1) 0 → all isItem (spelt (drop (2 * (i + 1)) bs)) ≡ all isItem (spelt bs)

@@ -82,6 +82,14 @@ reads-back f out after (Ok n) w =
     subst (λ bs. Reads-only-as bs f) (sym (written f out after n (w .1) (w .2))) (wire-reads f (room-left (leb 40 (length out)) (frameFault f) (w .0)))
 reads-back f out after (Err e) w = tt
 
+-- a frame that was read has no fault
+no-fault : (bs : List ℕ) (f : Frame) → Reads bs (Ok f) → frameFault f ≡ 0
+no-fault bs f h = sym (wire-fault f) ∙ ap fault (h .1) ∙ h .0
+
+pub can-be-written : (bs : List ℕ) (r : Result Frame Refusal) → Reads bs r → made r (λ f. frameFault f ≡ 0)
+can-be-written bs (Ok f) h = no-fault bs f h
+can-be-written bs (Err e) h = tt
+
 -- bytes that read as a frame are those that it is written as
 written-as : (bs : List ℕ) (f : Frame) → Reads bs (Ok f) → Written-only-as f bs
 written-as bs f h out after (Ok n) room w =
@@ -89,7 +97,7 @@ written-as bs f h out after (Ok n) room w =
     (ap Ok l, ap (λ k. take k after) (sym l) ∙ written f out after n (w .1) (w .2) ∙ h .1)
 written-as bs f h out after (Err e) room w =
     let free = cond-true (leb 40 (length out)) (frameFault f) 1 (le-leb 40 (length out) room) in
-    let none = sym (wire-fault f) ∙ ap fault (h .1) ∙ h .0 in
+    let none = no-fault bs f h in
     let n = some-number e in
     absurd (omega (arith, sym free ∙ w .0))
 

@@ -2,6 +2,7 @@
 use mathlib.Core.Bool.{cond}
 use mathlib.Core.List.{List, [], _∷_}
 use Prim.Native.Nat.{ℕ, _/_, _%_}
+use lib.Chars.{codes}
 use lib.Dec.{eqb}
 use lib.ListN.{length, take}
 use Rattle.std.specs.declared.option.Option.{Option}
@@ -32,6 +33,23 @@ codeNumber C.ApplyCharging = 35
 codeNumber C.CallInformationRequest = 45
 codeNumber C.Cancel = 53
 codeNumber C.ActivityTest = 55
+
+-- the operation's name in the trade
+abbrev pub codeName : Code → List ℕ
+codeName C.InitialDpError = codes "error to InitialDP"
+codeName C.EstablishTemporaryConnection = codes "EstablishTemporaryConnection"
+codeName C.DisconnectForwardConnection = codes "DisconnectForwardConnection"
+codeName C.ConnectToResource = codes "ConnectToResource"
+codeName C.Connect = codes "Connect"
+codeName C.ReleaseCall = codes "ReleaseCall"
+codeName C.RequestReportBcsmEvent = codes "RequestReportBCSMEvent"
+codeName C.CollectInformation = codes "CollectInformation"
+codeName C.Continue = codes "Continue"
+codeName C.ResetTimer = codes "ResetTimer"
+codeName C.ApplyCharging = codes "ApplyCharging"
+codeName C.CallInformationRequest = codes "CallInformationRequest"
+codeName C.Cancel = codes "Cancel"
+codeName C.ActivityTest = codes "ActivityTest"
 
 -- every operation
 abbrev pub operations : List Code

@@ -1,10 +1,10 @@
 //! Which operation a frame asks for.
 ghost use mathlib.Core.Path.{_≡_};
 ghost use Rattle.std.specs.Options.{Cases as BySome};
-ghost use Rattle.frame.specs.Operations.{codeNumber, codeAt};
+ghost use Rattle.frame.specs.Operations.{codeAt, codeName, codeNumber};
 
 /// An operation without its argument.
-#[derive(Clone, Copy, Debug)]
+#[derive(Clone, Copy)]
 pub enum Code {
     InitialDpError = 0,
     EstablishTemporaryConnection = 17,
@@ -51,6 +51,28 @@ impl Code {
             53 => Some(Code::Cancel),
             55 => Some(Code::ActivityTest),
             _ => None,
+        }
+    }
+
+    /// The operation's name in the trade.
+    pub fn name(self) -> &'static str
+        ensures { λ r. ⌜ now r ≡ codeName self ⌝ }
+    {
+        match self {
+            Code::InitialDpError => "error to InitialDP",
+            Code::EstablishTemporaryConnection => "EstablishTemporaryConnection",
+            Code::DisconnectForwardConnection => "DisconnectForwardConnection",
+            Code::ConnectToResource => "ConnectToResource",
+            Code::Connect => "Connect",
+            Code::ReleaseCall => "ReleaseCall",
+            Code::RequestReportBcsmEvent => "RequestReportBCSMEvent",
+            Code::CollectInformation => "CollectInformation",
+            Code::Continue => "Continue",
+            Code::ResetTimer => "ResetTimer",
+            Code::ApplyCharging => "ApplyCharging",
+            Code::CallInformationRequest => "CallInformationRequest",
+            Code::Cancel => "Cancel",
+            Code::ActivityTest => "ActivityTest",
         }
     }
 }

@@ -3,7 +3,7 @@ ghost use mathlib.Core.Path.{_≡_};
 ghost use mathlib.Core.Bool.{false};
 ghost use Rattle.std.specs.Options.{Cases as BySome};
 ghost use Rattle.terms.specs.Points.{pointNumber};
-ghost use Rattle.frame.specs.Items.{modeNumber, isMode, isItem};
+ghost use Rattle.frame.specs.Items.{isItem, isMode, modeName, modeNumber};
 use terms::point::Point;
 
 /// What the exchange does when the call comes to a detection point.
@@ -34,6 +34,17 @@ impl Mode {
             1 => Some(Mode::Notify),
             2 => Some(Mode::Transparent),
             _ => None,
+        }
+    }
+
+    /// The mode's name in the trade.
+    pub fn name(self) -> &'static str
+        ensures { λ r. ⌜ now r ≡ modeName self ⌝ }
+    {
+        match self {
+            Mode::Interrupt => "interrupt",
+            Mode::Notify => "notify",
+            Mode::Transparent => "transparent",
         }
     }
 }

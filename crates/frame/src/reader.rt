@@ -2,6 +2,7 @@
 ghost use mathlib.Core.Path.{_≡_};
 ghost use Prim.Native.Nat.{ℕ};
 ghost use Rattle.std.specs.Vec.{made};
+ghost use Rattle.frame.specs.Format.{frameFault};
 ghost use Rattle.frame.specs.Laws.{Written-only-as};
 ghost use Rattle.frame.specs.Promises.{Contains, Reads};
 use crate::arguments::operation;
@@ -31,6 +32,7 @@ fn content(dialogue: u8, number: u8, invoke: u8, bytes: &[u8]) -> Result<Frame, 
 /// The frame that the bytes are, or their first fault.
 pub fn read(bytes: &[u8]) -> Result<Frame, Refusal>
     ensures reads { λ r. ⌜ Reads (now (bytes .entry)) r ⌝ }
+    ensures can_be_written { λ r. ⌜ made r (λ f. frameFault f ≡ 0) ⌝ }
     ensures one_spelling { λ r. ⌜ made r (λ f. Written-only-as f (now (bytes .entry))) ⌝ }
 {
     let n = bytes.len();

@@ -3,3 +3,4 @@ pub mod Tests
 pub mod Padded
 pub mod Named
 pub mod Numbered
+pub mod Twos

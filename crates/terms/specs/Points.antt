@@ -1,6 +1,8 @@
--- Detection points: the number of each.
+-- Detection points: the number and the name of each.
 use mathlib.Core.Bool.{Bool, _||_}
+use mathlib.Core.List.{List}
 use Prim.Native.Nat.{ℕ}
+use lib.Chars.{codes}
 use Rattle.terms.specs.Ranges.{within}
 use Rattle.terms.specs.declared.point.Point.{Point}
 use Rattle.terms.specs.declared.point.Point.the-variants as P
@@ -27,3 +29,23 @@ pointNumber P.TAbandon = 18
 -- whether a number is that of a detection point
 abbrev pub isPoint : ℕ → Bool
 isPoint n = within 1 10 n || within 12 18 n
+
+-- the point's name in the trade
+abbrev pub pointName : Point → List ℕ
+pointName P.OrigAttemptAuthorized = codes "origAttemptAuthorized"
+pointName P.CollectedInfo = codes "collectedInfo"
+pointName P.AnalyzedInformation = codes "analyzedInformation"
+pointName P.RouteSelectFailure = codes "routeSelectFailure"
+pointName P.OCalledPartyBusy = codes "oCalledPartyBusy"
+pointName P.ONoAnswer = codes "oNoAnswer"
+pointName P.OAnswer = codes "oAnswer"
+pointName P.OMidCall = codes "oMidCall"
+pointName P.ODisconnect = codes "oDisconnect"
+pointName P.OAbandon = codes "oAbandon"
+pointName P.TermAttemptAuthorized = codes "termAttemptAuthorized"
+pointName P.TCalledPartyBusy = codes "tCalledPartyBusy"
+pointName P.TNoAnswer = codes "tNoAnswer"
+pointName P.TAnswer = codes "tAnswer"
+pointName P.TMidCall = codes "tMidCall"
+pointName P.TDisconnect = codes "tDisconnect"
+pointName P.TAbandon = codes "tAbandon"

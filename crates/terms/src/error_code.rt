@@ -2,7 +2,7 @@
 ghost use mathlib.Core.Path.{_≡_};
 ghost use mathlib.Core.Bool.{false};
 ghost use Rattle.std.specs.Options.{Cases as BySome};
-ghost use Rattle.terms.specs.ErrorCodes.{errorNumber, isErrorCode};
+ghost use Rattle.terms.specs.ErrorCodes.{errorName, errorNumber, isErrorCode};
 
 /// Why an operation was not carried out.
 #[derive(Clone, Copy, PartialEq, Eq, Debug)]
@@ -39,6 +39,22 @@ impl ErrorCode {
             15 => Some(ErrorCode::UnexpectedDataValue),
             16 => Some(ErrorCode::UnexpectedParameter),
             _ => None,
+        }
+    }
+
+    /// The code's name in the trade.
+    pub fn name(self) -> &'static str
+        ensures { λ r. ⌜ now r ≡ errorName self ⌝ }
+    {
+        match self {
+            ErrorCode::MissingCustomerRecord => "missingCustomerRecord",
+            ErrorCode::MissingParameter => "missingParameter",
+            ErrorCode::ParameterOutOfRange => "parameterOutOfRange",
+            ErrorCode::SystemFailure => "systemFailure",
+            ErrorCode::TaskRefused => "taskRefused",
+            ErrorCode::UnexpectedComponentSequence => "unexpectedComponentSequence",
+            ErrorCode::UnexpectedDataValue => "unexpectedDataValue",
+            ErrorCode::UnexpectedParameter => "unexpectedParameter",
         }
     }
 }

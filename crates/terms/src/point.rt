@@ -3,10 +3,10 @@ ghost use mathlib.Core.Path.{_≡_};
 ghost use mathlib.Core.Bool.{false};
 ghost use lib.Dec.{eqb};
 ghost use Rattle.std.specs.Options.{Cases as BySome};
-ghost use Rattle.terms.specs.Points.{pointNumber, isPoint};
+ghost use Rattle.terms.specs.Points.{isPoint, pointName, pointNumber};
 
 /// A detection point. Those from 1 to 10 lie in the calling half of a call, those from 12 on in the called half.
-#[derive(Clone, Copy, Eq, Debug)]
+#[derive(Clone, Copy, Eq)]
 pub enum Point {
     OrigAttemptAuthorized = 1,
     CollectedInfo = 2,
@@ -58,6 +58,31 @@ impl Point {
             17 => Some(Point::TDisconnect),
             18 => Some(Point::TAbandon),
             _ => None,
+        }
+    }
+
+    /// The point's name in the trade.
+    pub fn name(self) -> &'static str
+        ensures { λ r. ⌜ now r ≡ pointName self ⌝ }
+    {
+        match self {
+            Point::OrigAttemptAuthorized => "origAttemptAuthorized",
+            Point::CollectedInfo => "collectedInfo",
+            Point::AnalyzedInformation => "analyzedInformation",
+            Point::RouteSelectFailure => "routeSelectFailure",
+            Point::OCalledPartyBusy => "oCalledPartyBusy",
+            Point::ONoAnswer => "oNoAnswer",
+            Point::OAnswer => "oAnswer",
+            Point::OMidCall => "oMidCall",
+            Point::ODisconnect => "oDisconnect",
+            Point::OAbandon => "oAbandon",
+            Point::TermAttemptAuthorized => "termAttemptAuthorized",
+            Point::TCalledPartyBusy => "tCalledPartyBusy",
+            Point::TNoAnswer => "tNoAnswer",
+            Point::TAnswer => "tAnswer",
+            Point::TMidCall => "tMidCall",
+            Point::TDisconnect => "tDisconnect",
+            Point::TAbandon => "tAbandon",
         }
     }
 }
