@@ -4,3 +4,4 @@ pub mod Padded
 pub mod Named
 pub mod Numbered
 pub mod Twos
+pub mod Each

@@ -4,6 +4,8 @@ ghost use Rattle.terms.specs.Decimals.{keptDigits};
 
 mod methods;
 
+pub use methods::DigitsDisplay;
+
 /// The most digits that a number of the exchange has.
 pub const MOST_DIGITS: usize = 15;
 

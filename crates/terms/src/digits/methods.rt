@@ -5,11 +5,14 @@ ghost use Prim.Native.Nat.{ℕ, _≤_};
 ghost use lib.Dec.{eqb};
 ghost use lib.ListN.{length};
 ghost use Rattle.std.specs.Options.{Cases as BySome};
+ghost use Rattle.std.specs.declared.option.Option.the-variants.{Some};
 ghost use Rattle.terms.specs.Padding.{all};
 ghost use Rattle.terms.specs.Decimals.{areDigits, isDigit, mostDigits};
 ghost use Rattle.terms.specs.Digits.{ascii};
 use super::Digits;
 use super::MOST_DIGITS;
+use std::fmt;
+use std::str;
 
 fn all_digits(bytes: &[u8]) -> bool
     ensures { λ r. ⌜ r ≡ all isDigit (now (bytes .entry)) ⌝ }
@@ -45,5 +48,17 @@ impl Digits {
         ensures few { λ r. ⌜ length (now r) ≤ mostDigits ⌝ }
     {
         &self.bytes[0..self.count as usize]
+    }
+}
+
+/// Shows the digits.
+pub impl fmt::Display for Digits as DigitsDisplay {
+    ghost shown = { λ d. Some (ascii d) };
+
+    fn fmt<W: fmt::Write>(&self, f: &mut fmt::Formatter<W>) -> fmt::Result {
+        match str::from_utf8(self.as_ascii()) {
+            Ok(text) => f.pad(text),
+            Err(_) => Err(fmt::Error),
+        }
     }
 }
