@@ -1,0 +1,154 @@
+//! What the reader answers at the edges: 0 for a frame, else the refusal's number.
+use frame::read;
+use std::test::*;
+
+fn answer(bytes: &[u8]) -> u8 {
+    match read(bytes) {
+        Ok(_) => 0,
+        Err(refusal) => refusal.number(),
+    }
+}
+
+/// Continue has 6 bytes, the shortest frame; 5 bytes and none at all are refused by 2.
+#[test]
+fn short_frames() -> Result<(), Fail> {
+    check_eq(answer(&[]), 2)?;
+    check_eq(answer(&[0, 3, 1, 7, 31]), 2)?;
+    check_eq(answer(&[0, 4, 1, 7, 31, 6]), 0)
+}
+
+/// The length field counts what follows it, and nothing else.
+#[test]
+fn length_field() -> Result<(), Fail> {
+    check_eq(answer(&[0, 6, 1, 7, 31, 6]), 2)?;
+    check_eq(answer(&[0, 3, 1, 7, 31, 6]), 2)?;
+    check_eq(answer(&[1, 4, 1, 7, 31, 6]), 2)
+}
+
+/// Seventeen items make the longest frame, 40 bytes; one byte more is refused by 2.
+#[test]
+fn seventeen_items() -> Result<(), Fail> {
+    let full = [
+        0,
+        38,
+        1,
+        7,
+        23,
+        6,
+        1,
+        0,
+        2,
+        1,
+        3,
+        2,
+        4,
+        0,
+        5,
+        1,
+        6,
+        2,
+        7,
+        0,
+        8,
+        1,
+        9,
+        2,
+        10,
+        0,
+        12,
+        1,
+        13,
+        2,
+        14,
+        0,
+        15,
+        1,
+        16,
+        2,
+        17,
+        0,
+        18,
+        1,
+    ];
+    let longer = [
+        0,
+        39,
+        1,
+        7,
+        23,
+        6,
+        1,
+        0,
+        2,
+        1,
+        3,
+        2,
+        4,
+        0,
+        5,
+        1,
+        6,
+        2,
+        7,
+        0,
+        8,
+        1,
+        9,
+        2,
+        10,
+        0,
+        12,
+        1,
+        13,
+        2,
+        14,
+        0,
+        15,
+        1,
+        16,
+        2,
+        17,
+        0,
+        18,
+        1,
+        0,
+    ];
+    check_eq(full.len(), 40)?;
+    check_eq(answer(&full), 0)?;
+    check_eq(longer.len(), 41)?;
+    check_eq(answer(&longer), 2)
+}
+
+/// An address has one to fifteen digits.
+#[test]
+fn addresses() -> Result<(), Fail> {
+    let fifteen = *b"\x00\x14\x01\x07\x14\x06\x0F123456789012345";
+    let sixteen = *b"\x00\x15\x01\x07\x14\x06\x101234567890123456";
+    check_eq(answer(&fifteen), 0)?;
+    check_eq(answer(&sixteen), 7)?;
+    check_eq(answer(&[0, 5, 1, 7, 20, 6, 0]), 7)?;
+    check_eq(answer(&[0, 6, 1, 7, 20, 6, 1, 48]), 0)?;
+    check_eq(answer(&[0, 6, 1, 7, 20, 6, 1, 47]), 8)?;
+    check_eq(answer(&[0, 6, 1, 7, 20, 6, 1, 58]), 8)
+}
+
+/// A timer is set to 1 to 6,000 ticks.
+#[test]
+fn timers() -> Result<(), Fail> {
+    check_eq(answer(&[0, 6, 1, 7, 33, 6, 0, 0]), 8)?;
+    check_eq(answer(&[0, 6, 1, 7, 33, 6, 0, 1]), 0)?;
+    check_eq(answer(&[0, 6, 1, 7, 33, 6, 23, 112]), 0)?;
+    check_eq(answer(&[0, 6, 1, 7, 33, 6, 23, 113]), 8)
+}
+
+/// Of several faults the one with the lowest number is named.
+#[test]
+fn first_fault() -> Result<(), Fail> {
+    check_eq(answer(&[0, 5, 2, 64, 21, 128, 0]), 3)?;
+    check_eq(answer(&[0, 5, 1, 64, 21, 128, 0]), 4)?;
+    check_eq(answer(&[0, 5, 1, 63, 21, 128, 0]), 5)?;
+    check_eq(answer(&[0, 5, 1, 63, 31, 128, 0]), 6)?;
+    check_eq(answer(&[0, 5, 1, 63, 31, 127, 0]), 7)?;
+    check_eq(answer(&[0, 10, 1, 7, 23, 6, 9, 0, 9, 0, 7, 3]), 8)?;
+    check_eq(answer(&[0, 8, 1, 7, 23, 6, 9, 0, 9, 2]), 9)
+}
