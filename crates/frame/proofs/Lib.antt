@@ -1,7 +1,6 @@
 pub mod Short
 pub mod Spelling
 pub mod Values
-pub mod Heads
 pub mod Same
 pub mod Ties
 pub mod Put

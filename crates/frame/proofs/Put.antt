@@ -5,7 +5,7 @@ use Prim.Native.Nat.{ℕ, suc, _+_, _-_, _*_, _≤_, _<_}
 use native.Mathlib.Omega.{arith}
 use lib.ListN.{length, getD, set, take, drop}
 use borrow.Rule.Slice.PartMut.{putMid}
-use Rattle.std.proofs.shelf.Lists.{take-append-drop, drop-append-le, drop-drop, drop-at, length-append, length-drop, length-push, length-take-le, set-at, take-all, take-more}
+use Rattle.std.proofs.shelf.Lists.{take-append-drop, drop-append-le, drop-drop, drop-at, length-drop, length-push, length-take-le, set-at, take-all, take-more}
 use Rattle.terms.specs.Points.{pointNumber}
 use Rattle.terms.proofs.Twos.{drop-two}
 use Rattle.frame.specs.Items.{modeNumber, itemBytes}
@@ -39,25 +39,14 @@ pub put-all : (xs : List Item) (was o : List ℕ) (i : ℕ) → i ≡ length xs 
 put-all xs was o i n e =
     e ∙ (λ j. itemBytes (take (n j) xs) ++ drop (2 * n j) was) ∙ ap (λ l. itemBytes l ++ drop (2 * length xs) was) (take-all (length xs) xs (omega arith))
 
-set-six : (o : List ℕ) (a b c d e f : ℕ) → 6 ≤ length o → set (set (set (set (set (set o 0 a) 1 b) 2 c) 3 d) 4 e) 5 f ≡ a ∷ b ∷ c ∷ d ∷ e ∷ f ∷ drop 6 o
-set-six [] a b c d e f h = absurd (omega arith)
-set-six (_ ∷ []) a b c d e f h = absurd (omega arith)
-set-six (_ ∷ _ ∷ []) a b c d e f h = absurd (omega arith)
-set-six (_ ∷ _ ∷ _ ∷ []) a b c d e f h = absurd (omega arith)
-set-six (_ ∷ _ ∷ _ ∷ _ ∷ []) a b c d e f h = absurd (omega arith)
-set-six (_ ∷ _ ∷ _ ∷ _ ∷ _ ∷ []) a b c d e f h = absurd (omega arith)
-set-six (_ ∷ _ ∷ _ ∷ _ ∷ _ ∷ _ ∷ o) a b c d e f h = refl
-
 -- what the argument's part leaves, and what stands behind that part
 rest : (o : List ℕ) (r : ℕ) → 34 ≤ length o → r ≤ 34 → drop r (take 34 o) ++ drop 34 o ≡ drop r o
 rest o r l h = sym (drop-append-le r (take 34 o) (drop 34 o) (rw length-take-le h)) ∙ ap (drop r) (take-append-drop 34 o)
 
--- the head is written before an argument that stands already
-pub head-put : (out ys arg : List ℕ) (a b c d e f r : ℕ) → 40 ≤ length out → r ≤ 34 → ys ≡ arg ++ drop r (take 34 (drop 6 out)) → set (set (set (set (set (set (putMid 6 34 out ys) 0 a) 1 b) 2 c) 3 d) 4 e) 5 f ≡ a ∷ b ∷ c ∷ d ∷ e ∷ f ∷ (arg ++ drop (6 + r) out)
-head-put out ys arg a b c d e f r l h y =
+-- what stands behind the head, once the argument is written
+pub behind-head : (out ys arg : List ℕ) (r : ℕ) → 40 ≤ length out → r ≤ 34 → ys ≡ arg ++ drop r (take 34 (drop 6 out)) → drop 6 (putMid 6 34 out ys) ≡ arg ++ drop (6 + r) out
+behind-head out ys arg r l h y =
     let six : length (take 6 out) ≡ 6 = length-take-le 6 out (omega arith) in
     let long : 34 ≤ length (drop 6 out) = rw length-drop (omega arith) in
-    set-six (putMid 6 34 out ys) a b c d e f (rw length-append (omega arith)) ∙
-    ap (λ k. a ∷ b ∷ c ∷ d ∷ e ∷ f ∷ k)
-    (drop-at (take 6 out) (ys ++ drop 34 (drop 6 out)) 6 six ∙ ap (λ k. k ++ drop 34 (drop 6 out)) y ∙ append-assoc arg _ _ ∙
-    ap (λ k. arg ++ k) (rest (drop 6 out) r long h ∙ drop-drop r 6 out))
+    drop-at (take 6 out) (ys ++ drop 34 (drop 6 out)) 6 six ∙ ap (λ k. k ++ drop 34 (drop 6 out)) y ∙ append-assoc arg _ _ ∙
+    ap (λ k. arg ++ k) (rest (drop 6 out) r long h ∙ drop-drop r 6 out)

@@ -4,18 +4,20 @@ use mathlib.Core.Bool.{Bool, true, false, cond}
 use mathlib.Core.List.{List, [], _∷_, _++_}
 use Prim.Native.Nat.{ℕ, _+_, _-_, _*_, _/_, _%_, _≤_, _<_}
 use native.Mathlib.Omega.{arith}
-use lib.Dec.{leb}
+use lib.Dec.{leb, eqb}
 use lib.ListN.{length, getD, take, drop, length-drop}
 use Rattle.std.proofs.shelf.Lists.{take-at, take-rest}
-use Rattle.std.proofs.shelf.Tests.{le-leb, eq-eqb, and-from, cond-true}
+use Rattle.std.proofs.shelf.Tests.{and-from, and-parts, cond-true, eq-eqb, eqb-true, le-leb, leb-true}
+use Rattle.std.proofs.shelf.Ways.{tells}
 use Rattle.std.specs.declared.result.Result.{Result}
 use Rattle.std.specs.declared.result.Result.the-variants.{Ok, Err}
 use Rattle.std.specs.Vec.{made}
+use Rattle.terms.specs.Ranges.{within}
 use Rattle.terms.specs.Refusals.{refusalNumber}
 use Rattle.terms.specs.declared.refusal.Refusal.{Refusal}
 use Rattle.terms.specs.declared.refusal.Refusal.the-variants as R
-use Rattle.frame.specs.Operations.{argument, codeAt, codeIn}
-use Rattle.frame.specs.Format.{carried, codeByte, contentFault, fault, frameFault, wire}
+use Rattle.frame.specs.Operations.{argument, codeIn}
+use Rattle.frame.specs.Format.{carried, codeByte, contentFault, fault, frameFault, frameLength, versionFault, wire}
 use Rattle.frame.specs.Promises.{Contains, Reads, Writes, writeFault}
 use Rattle.frame.specs.Laws.{Reads-only-as, Written-only-as}
 use Rattle.frame.specs.declared.operation.Frame.{Frame}
@@ -30,29 +32,35 @@ first-six (a ∷ b ∷ c ∷ d ∷ []) h = absurd (omega arith)
 first-six (a ∷ b ∷ c ∷ d ∷ e ∷ []) h = absurd (omega arith)
 first-six (a ∷ b ∷ c ∷ d ∷ e ∷ f ∷ rest) h = refl
 
-module _ (bs : List ℕ) (low : 6 ≤ length bs) (high : length bs ≤ 40) (len : 256 * getD bs 0 0 + getD bs 1 0 + 2 ≡ length bs) (version : getD bs 2 0 ≡ 1) where
-  -- past length and version, the fault is the content's
-  to-content : fault bs ≡ contentFault (getD bs 3 0) (codeAt (getD bs 4 0)) (getD bs 5 0) (drop 6 bs)
-  to-content =
-      cond-true _ _ _ (and-from _ _ (and-from _ _ (le-leb 6 (length bs) low) (le-leb (length bs) 40 high)) (eq-eqb _ _ len)) ∙ cond-true _ _ _ (eq-eqb _ _ version)
+version-right : (v x : ℕ) → cond (eqb v 1) x 3 ≡ 0 → v ≡ 1
+version-right v x e = grind (arith, tells)
 
-  content-fault : fault bs ≡ contentFault (getD bs 3 0) (codeAt (getD bs 4 0)) (getD bs 5 0) (take (length bs - 6) (drop 6 bs))
-  content-fault = to-content ∙ ap (contentFault (getD bs 3 0) (codeAt (getD bs 4 0)) (getD bs 5 0)) (sym (take-rest bs 6))
+frame-length : (bs : List ℕ) → frameLength bs ≡ true → (6 ≤ length bs) × (length bs ≤ 40) × (256 * getD bs 0 0 + getD bs 1 0 + 2 ≡ length bs)
+frame-length bs e =
+    let p = and-parts (within 6 40 (length bs)) _ e in
+    let q = and-parts (leb 6 (length bs)) _ (p .0) in
+    (leb-true _ _ (q .0), leb-true _ _ (q .1), eqb-true _ _ (p .1))
 
-  pub to-reads : getD bs 1 0 < 256 → (r : Result Frame Refusal) → Contains (getD bs 3 0) (getD bs 4 0) (getD bs 5 0) (take (length bs - 6) (drop 6 bs)) r → Reads bs r
-  to-reads byte (Err e) h = content-fault ∙ h
-  to-reads byte (Ok f) h =
-      let arg : argument (f .operation) ≡ drop 6 bs = h .4 ∙ take-rest bs 6 in
-      let size = ap length arg ∙ length-drop 6 bs in
-      let b0 : carried (argument (f .operation)) / 256 ≡ getD bs 0 0 = omega arith in
-      let b1 : carried (argument (f .operation)) % 256 ≡ getD bs 1 0 = omega arith in
-      (content-fault ∙ h .0, (λ j. b0 j ∷ b1 j ∷ sym version j ∷ h .1 j ∷ h .3 j ∷ h .2 j ∷ arg j) ∙ sym (first-six bs low))
+-- what is read is what stands behind the length
+pub to-reads : (bs : List ℕ) → frameLength bs ≡ true → getD bs 1 0 < 256 → (r : Result Frame Refusal) → Contains (getD bs 2 0) (getD bs 3 0) (getD bs 4 0) (getD bs 5 0) (take (length bs - 6) (drop 6 bs)) r → Reads bs r
+to-reads bs len byte (Err e) h =
+    cond-true _ _ _ len ∙ ap (versionFault (getD bs 2 0) (getD bs 3 0) (getD bs 4 0) (getD bs 5 0)) (sym (take-rest bs 6)) ∙ h
+to-reads bs len byte (Ok f) h =
+    let l = frame-length bs len in
+    let arg : argument (f .operation) ≡ drop 6 bs = h .4 ∙ take-rest bs 6 in
+    let size = ap length arg ∙ length-drop 6 bs in
+    let b0 : carried (argument (f .operation)) / 256 ≡ getD bs 0 0 = omega arith in
+    let b1 : carried (argument (f .operation)) % 256 ≡ getD bs 1 0 = omega arith in
+    let v = version-right (getD bs 2 0) _ (h .0) in (
+      cond-true _ _ _ len ∙ ap (versionFault (getD bs 2 0) (getD bs 3 0) (getD bs 4 0) (getD bs 5 0)) (sym (take-rest bs 6)) ∙ h .0,
+      (λ j. b0 j ∷ b1 j ∷ sym v j ∷ h .1 j ∷ h .3 j ∷ h .2 j ∷ arg j) ∙ sym (first-six bs (l .0)),
+    )
 
 -- the fault of a frame's bytes is the frame's
 wire-fault : (f : Frame) → fault (wire f) ≡ frameFault f
 wire-fault f =
     let short = argument-short (f .operation) in
-    to-content (wire f) (omega arith) (omega arith) (omega arith) refl ∙ ap (λ k. contentFault (f .dialogue) k (f .invoke) (argument (f .operation))) (named (codeIn (f .operation)))
+    cond-true _ _ _ (and-from _ _ (and-from _ _ (le-leb 6 (length (wire f)) (omega arith)) (le-leb (length (wire f)) 40 (omega arith))) (eq-eqb _ _ (omega arith))) ∙ ap (λ k. contentFault (f .dialogue) k (f .invoke) (argument (f .operation))) (named (codeIn (f .operation)))
 
 some-number : (e : Refusal) → 0 < refusalNumber e
 some-number R.Room = omega arith

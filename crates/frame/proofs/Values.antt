@@ -1,5 +1,5 @@
 -- Where the values of an argument are at fault, past a length that is right.
-use mathlib.Core.Path.{_≡_, refl, sym, ap, _∙_}
+use mathlib.Core.Path.{_≡_, refl, sym, ap, subst, _∙_}
 use mathlib.Core.Bool.{Bool, true, false, cond, _&&_}
 use mathlib.Core.List.{List, [], _∷_}
 use Prim.Native.Nat.{ℕ, _+_, _-_, _*_, _%_, _≤_, _<_}
@@ -8,6 +8,12 @@ use lib.Dec.{leb, eqb}
 use lib.ListN.{length, getD, take, drop, length-drop}
 use Rattle.std.proofs.shelf.Lists.{take-rest}
 use Rattle.std.proofs.shelf.Tests.{le-leb, eq-eqb, eqb-false, and-from, cond-true, cond-false}
+use Rattle.std.specs.Results.{Cases}
+use Rattle.std.specs.declared.result.Result.{Result}
+use Rattle.std.specs.declared.result.Result.the-variants.{Ok, Err}
+use Rattle.terms.specs.Refusals.{refusalNumber}
+use Rattle.terms.specs.declared.refusal.Refusal.{Refusal}
+use Rattle.terms.specs.declared.refusal.Refusal.the-variants.{PointTwice}
 use Rattle.terms.specs.Padding.{all}
 use Rattle.terms.specs.Decimals.{isDigit, areDigits}
 use Rattle.frame.specs.Items.{itemBytes, spelt, isItem, someTwice}
@@ -32,9 +38,19 @@ items-exist [] = refl
 items-exist (x ∷ xs) = and-from _ _ (item-exists x) (items-exist xs)
 
 -- of items that are there and not too many, only a point that comes twice is a fault
-pub items-twice : (xs ys : List Item) → ys ≡ xs → length ys ≤ 17 → eqb (length ys) 0 ≡ false → (b : Bool) → b ≡ someTwice (spelt (itemBytes ys)) → itemsFault (itemBytes xs) ≡ cond b 9 0
-items-twice xs ys e few some b t =
+items-twice : (xs ys : List Item) → ys ≡ xs → length ys ≤ 17 → eqb (length ys) 0 ≡ false → itemsFault (itemBytes xs) ≡ cond (someTwice (spelt (itemBytes ys))) (refusalNumber PointTwice) 0
+items-twice xs ys e few some =
     let size : length (itemBytes xs) ≡ 2 * length ys = length-itemBytes xs ∙ ap (λ l. 2 * length l) (sym e) in
     let low : 2 ≤ length (itemBytes xs) = omega (arith, eqb-false _ _ some) in
     let right : itemsLength (itemBytes xs) ≡ true = and-from _ _ (and-from _ _ (le-leb 2 _ low) (le-leb _ 34 (omega arith))) (eq-eqb _ _ (omega arith)) in
-    cond-true _ _ _ right ∙ cond-true _ _ _ (items-exist xs) ∙ sym (ap (λ u. cond u 9 0) (t ∙ ap (λ l. someTwice (spelt (itemBytes l))) e))
+    cond-true _ _ _ right ∙ cond-true _ _ _ (items-exist xs) ∙ sym (ap (λ l. cond (someTwice (spelt (itemBytes l))) (refusalNumber PointTwice) 0) e)
+
+abbrev Checked : ℕ → Result (Unit {0}) Refusal → Type 0
+Checked f r = Cases r (λ _. f ≡ 0) (λ e. f ≡ refusalNumber e)
+
+by-twice : (twice : Bool) (f : ℕ) (r : Result (Unit {0}) Refusal) → f ≡ cond twice (refusalNumber PointTwice) 0 → r ≡ cond twice (Err PointTwice) (Ok tt) → Checked f r
+by-twice true f r e h = subst (Checked f) (sym h) e
+by-twice false f r e h = subst (Checked f) (sym h) e
+
+pub items-checked : (xs ys : List Item) (r : Result (Unit {0}) Refusal) → ys ≡ xs → length ys ≤ 17 → eqb (length ys) 0 ≡ false → r ≡ cond (someTwice (spelt (itemBytes ys))) (Err PointTwice) (Ok tt) → Checked (itemsFault (itemBytes xs)) r
+items-checked xs ys r e few some h = by-twice (someTwice (spelt (itemBytes ys))) (itemsFault (itemBytes xs)) r (items-twice xs ys e few some) h

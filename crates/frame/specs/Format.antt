@@ -88,6 +88,11 @@ operationFault (Some k) invoke arg = cond (leb invoke lastInvoke) (argumentFault
 abbrev pub contentFault : ℕ → Option Code → ℕ → List ℕ → ℕ
 contentFault dialogue k invoke arg = cond (leb dialogue lastDialogue) (operationFault k invoke arg) (refusalNumber R.Dialogue)
 
+-- from the version on
+abbrev pub versionFault : ℕ → ℕ → ℕ → ℕ → List ℕ → ℕ
+versionFault v dialogue n invoke arg =
+    cond (eqb v version) (contentFault dialogue (codeAt n) invoke arg) (refusalNumber R.Version)
+
 -- whether a list of bytes has a frame's length, and carries it
 abbrev pub frameLength : List ℕ → Bool
 frameLength bs = within headSize longestFrame (length bs) && eqb (256 * getD bs 0 0 + getD bs 1 0 + 2) (length bs)
@@ -96,7 +101,7 @@ frameLength bs = within headSize longestFrame (length bs) && eqb (256 * getD bs 
 abbrev pub fault : List ℕ → ℕ
 fault bs =
     cond (frameLength bs)
-    (cond (eqb (getD bs 2 0) version) (contentFault (getD bs 3 0) (codeAt (getD bs 4 0)) (getD bs 5 0) (drop headSize bs)) (refusalNumber R.Version))
+    (versionFault (getD bs 2 0) (getD bs 3 0) (getD bs 4 0) (getD bs 5 0) (drop headSize bs))
     (refusalNumber R.FrameLength)
 
 -- the first fault of a frame that is to be written

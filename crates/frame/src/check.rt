@@ -3,11 +3,13 @@ ghost use mathlib.Core.Path.{_≡_};
 ghost use mathlib.Core.Bool.{cond};
 ghost use mathlib.Core.List.{List};
 ghost use Prim.Native.Nat.{ℕ};
+ghost use lib.Dec.{leb};
 ghost use Rattle.std.specs.Results.{Cases};
 ghost use Rattle.std.specs.declared.option.Option.the-variants.{Some};
 ghost use Rattle.std.specs.declared.result.Result.the-variants.{Ok, Err};
 ghost use Rattle.terms.specs.Points.{pointNumber};
 ghost use Rattle.terms.specs.Refusals.{refusalNumber};
+ghost use Rattle.frame.specs.Limits.{lastDialogue, lastInvoke};
 ghost use Rattle.frame.specs.Items.{itemBytes, spelt, hasPoint, someTwice};
 ghost use Rattle.frame.specs.Operations.{addressBytes, argument, codeIn, itemsIn};
 ghost use Rattle.frame.specs.Format.{addressFault, argumentFault, itemsFault, contentFault, frameFault, operationFault};
@@ -25,19 +27,33 @@ use terms::point::Point;
 use terms::point::PointPartialEq;
 use terms::refusal::Refusal;
 
+fn check_dialogue(dialogue: u8) -> Result<(), Refusal>
+    ensures { λ r. ⌜ r ≡ cond (leb dialogue lastDialogue) (Ok tt) (Err Refusal.Dialogue) ⌝ }
+{
+    if dialogue > LAST_DIALOGUE {
+        Err(Refusal::Dialogue)
+    } else {
+        Ok(())
+    }
+}
+
+fn check_invoke(invoke: u8) -> Result<(), Refusal>
+    ensures { λ r. ⌜ r ≡ cond (leb invoke lastInvoke) (Ok tt) (Err Refusal.Invoke) ⌝ }
+{
+    if invoke > LAST_INVOKE {
+        Err(Refusal::Invoke)
+    } else {
+        Ok(())
+    }
+}
+
 /// The operation's code, if dialogue, operation and invoke number are ones that a frame can carry.
 pub(crate) fn check_head(dialogue: u8, code: Option<Code>, invoke: u8) -> Result<Code, Refusal>
     ensures { λ r. ⌜ Cases r (λ k. (code ≡ Some k) × ((arg : List ℕ) → contentFault dialogue code invoke arg ≡ argumentFault k arg)) (λ e. (arg : List ℕ) → contentFault dialogue code invoke arg ≡ refusalNumber e) ⌝ }
 {
-    if dialogue > LAST_DIALOGUE {
-        return Err(Refusal::Dialogue);
-    }
-    let Some(code) = code else {
-        return Err(Refusal::Operation);
-    };
-    if invoke > LAST_INVOKE {
-        return Err(Refusal::Invoke);
-    }
+    check_dialogue(dialogue)?;
+    let code = code.ok_or(Refusal::Operation)?;
+    check_invoke(invoke)?;
     Ok(code)
 }
 
@@ -77,18 +93,26 @@ fn check_address(address: &Digits) -> Result<(), Refusal>
     }
 }
 
+/// No point comes twice.
+fn check_distinct(items: &[Item]) -> Result<(), Refusal>
+    ensures { λ r. ⌜ r ≡ cond (someTwice (spelt (itemBytes (now (items .entry))))) (Err Refusal.PointTwice) (Ok tt) ⌝ }
+{
+    if some_twice(items) {
+        Err(Refusal::PointTwice)
+    } else {
+        Ok(())
+    }
+}
+
 /// There is at least one item, and no point comes twice.
 fn check_items(items: &Items) -> Result<(), Refusal>
     ensures { λ r. ⌜ Cases r (λ _. itemsFault (itemBytes (itemsIn (now (items .entry)))) ≡ 0) (λ e. itemsFault (itemBytes (itemsIn (now (items .entry)))) ≡ refusalNumber e) ⌝ }
 {
     let slice = items.as_slice();
     if slice.is_empty() {
-        Err(Refusal::ArgumentLength)
-    } else if some_twice(slice) {
-        Err(Refusal::PointTwice)
-    } else {
-        Ok(())
+        return Err(Refusal::ArgumentLength);
     }
+    check_distinct(slice)
 }
 
 /// Whether a value is allowed.

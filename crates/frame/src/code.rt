@@ -31,7 +31,7 @@ impl Code {
     }
 
     /// The operation that a byte stands for, if it stands for one.
-    pub fn from_number(number: u8) -> Option<Code>
+    pub(crate) fn from_number(number: u8) -> Option<Code>
         ensures found { λ r. ⌜ r ≡ codeAt number ⌝ }
         ensures named { λ r. ⌜ BySome r (Unit {0}) (λ k. codeNumber k ≡ number) ⌝ }
     {
@@ -56,7 +56,7 @@ impl Code {
 
     /// The operation's name in the trade.
     pub fn name(self) -> &'static str
-        ensures { λ r. ⌜ now r ≡ codeName self ⌝ }
+        ensures { λ r. ⌜ codeName self ≡ now r ⌝ }
     {
         match self {
             Code::InitialDpError => "error to InitialDP",

@@ -7,7 +7,7 @@ ghost use Rattle.frame.specs.Items.{isItem, isMode, modeName, modeNumber};
 use terms::point::Point;
 
 /// What the exchange does when the call comes to a detection point.
-#[derive(Clone, Copy, PartialEq, Eq, Debug)]
+#[derive(Clone, Copy, PartialEq, Eq)]
 pub enum Mode {
     /// Report it, and hold the call for instructions.
     Interrupt = 0,
@@ -19,14 +19,14 @@ pub enum Mode {
 
 impl Mode {
     /// The byte that stands for the mode.
-    pub fn number(self) -> u8
+    pub(crate) fn number(self) -> u8
         ensures { λ r. ⌜ r ≡ modeNumber self ⌝ }
     {
         self as u8
     }
 
     /// The mode that a byte stands for, if it stands for one.
-    pub fn from_number(number: u8) -> Option<Mode>
+    pub(crate) fn from_number(number: u8) -> Option<Mode>
         ensures { λ r. ⌜ BySome r (isMode number ≡ false) (λ m. modeNumber m ≡ number) ⌝ }
     {
         match number {
@@ -39,7 +39,7 @@ impl Mode {
 
     /// The mode's name in the trade.
     pub fn name(self) -> &'static str
-        ensures { λ r. ⌜ now r ≡ modeName self ⌝ }
+        ensures { λ r. ⌜ modeName self ≡ now r ⌝ }
     {
         match self {
             Mode::Interrupt => "interrupt",
@@ -64,7 +64,7 @@ impl Item {
     };
 
     /// The item of a point's and a mode's number, if both exist.
-    pub fn from_numbers(point: u8, mode: u8) -> Option<Item>
+    pub(crate) fn from_numbers(point: u8, mode: u8) -> Option<Item>
         ensures { λ r. ⌜ BySome r (isItem (point, mode) ≡ false) (λ x. (pointNumber (x .point) ≡ point) × (modeNumber (x .mode) ≡ mode)) ⌝ }
     {
         Some(Item {

@@ -1,14 +1,14 @@
 //! The writer.
 ghost use mathlib.Core.Path.{_≡_};
-ghost use mathlib.Core.List.{_∷_, _++_};
+ghost use mathlib.Core.List.{[], _∷_, _++_};
 ghost use Prim.Native.Nat.{ℕ, _+_, _≤_};
 ghost use lib.ListN.{length, take, drop};
 ghost use Rattle.std.specs.Vec.{made};
 ghost use Rattle.std.specs.declared.option.Option.the-variants.{Some};
 ghost use Rattle.terms.specs.Decimals.{mostDigits};
-ghost use Rattle.frame.specs.Limits.{longestArgument, longestFrame, mostItems};
+ghost use Rattle.frame.specs.Limits.{longestArgument, longestFrame, mostItems, version};
 ghost use Rattle.frame.specs.Items.{itemBytes};
-ghost use Rattle.frame.specs.Operations.{addressBytes, argument, codeIn};
+ghost use Rattle.frame.specs.Operations.{addressBytes, argument, codeIn, codeNumber};
 ghost use Rattle.frame.specs.Format.{wire};
 ghost use Rattle.frame.specs.Laws.{Reads-only-as};
 ghost use Rattle.frame.specs.Promises.{Writes};
@@ -82,6 +82,22 @@ fn put_argument(operation: &Operation, out: &mut [u8]) -> usize
     }
 }
 
+/// The bytes before an argument of so many bytes.
+fn head(frame: &Frame, code: Code, size: usize) -> [u8; HEAD_SIZE]
+    requires { ⌜ size ≤ longestArgument ⌝ }
+    ensures { λ r. ⌜ r ≡ 0 ∷ (4 + size) ∷ version ∷ now (frame .entry) .dialogue ∷ codeNumber code ∷ now (frame .entry) .invoke ∷ [] ⌝ }
+{
+    let (dialogue, invoke) = (frame.dialogue, frame.invoke);
+    [
+        0,
+        (4 + size) as u8,
+        VERSION,
+        dialogue,
+        code.number(),
+        invoke,
+    ]
+}
+
 /// Writes the frame of an operation whose code this is; returns the bytes written.
 fn put(frame: &Frame, code: Code, out: &mut [u8]) -> usize
     requires { ⌜ longestFrame ≤ length (now out) ⌝ ∗ ⌜ codeIn (now frame .operation) ≡ Some code ⌝ }
@@ -89,12 +105,7 @@ fn put(frame: &Frame, code: Code, out: &mut [u8]) -> usize
     ensures after { λ r. ⌜ now (out .exit) ≡ wire (now (frame .entry)) ++ drop r (now (out .entry)) ⌝ }
 {
     let n = put_argument(&frame.operation, &mut out[HEAD_SIZE..LONGEST_FRAME]);
-    out[0] = 0;
-    out[1] = (4 + n) as u8;
-    out[2] = VERSION;
-    out[3] = frame.dialogue;
-    out[4] = code.number();
-    out[5] = frame.invoke;
+    out[0..HEAD_SIZE].copy_from_slice(&head(frame, code, n));
     HEAD_SIZE + n
 }
 

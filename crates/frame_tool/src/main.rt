@@ -1,8 +1,7 @@
 //! Reads frames in capital hexadecimal, a line each, and says in words what each is.
-mod examine;
 mod words;
 
-use examine::examine;
+use frame_check::examine;
 use hex::HexFault;
 use hex::decode;
 use hex::fault::HexFaultDisplay;

@@ -42,7 +42,7 @@ fn print_argument(rt: &LibcRuntime, operation: &Operation) -> io::Result<()> {
 }
 
 /// Prints the frame's dialogue, invoke number, operation and argument.
-pub fn print_frame(rt: &LibcRuntime, frame: &Frame) -> io::Result<()> {
+pub(crate) fn print_frame(rt: &LibcRuntime, frame: &Frame) -> io::Result<()> {
     let dialogue = frame.dialogue;
     let invoke = frame.invoke;
     let name = match frame.operation.code() {

@@ -2,7 +2,7 @@
 ghost use mathlib.Core.Path.{_≡_};
 ghost use mathlib.Core.Bool.{true};
 ghost use mathlib.Core.List.{_++_};
-ghost use Prim.Native.Nat.{ℕ, _*_, _%_, _≤_, _<_};
+ghost use Prim.Native.Nat.{ℕ, _+_, _*_, _%_, _≤_, _<_};
 ghost use lib.ListN.{length, drop};
 ghost use Rattle.std.specs.Options.{Cases as BySome};
 ghost use Rattle.std.specs.Vec.{made};
@@ -25,6 +25,14 @@ fn digit_value(c: u8) -> u8
     if c <= b'9' { c - b'0' } else { c - b'A' + 10 }
 }
 
+/// The byte that two digits spell.
+fn byte_value(high: u8, low: u8) -> u8
+    requires { ⌜ isHexDigit high ≡ true ⌝ ∗ ⌜ isHexDigit low ≡ true ⌝ }
+    ensures { λ r. ⌜ r ≡ 16 * digitValue high + digitValue low ⌝ }
+{
+    16 * digit_value(high) + digit_value(low)
+}
+
 /// The place of the first character that is no digit.
 fn first_other(text: &[u8]) -> Option<usize>
     ensures { λ r. ⌜ BySome r (all isHexDigit (now (text .entry)) ≡ true) (λ i. FirstOther (now (text .entry)) i) ⌝ }
@@ -45,7 +53,7 @@ fn put_bytes(text: &[u8], out: &mut [u8]) -> usize
 {
     let n = text.len() / 2;
     for i in 0..n {
-        out[i] = 16 * digit_value(text[2 * i]) + digit_value(text[2 * i + 1]);
+        out[i] = byte_value(text[2 * i], text[2 * i + 1]);
     }
     n
 }

@@ -44,7 +44,7 @@ impl ErrorCode {
 
     /// The code's name in the trade.
     pub fn name(self) -> &'static str
-        ensures { λ r. ⌜ now r ≡ errorName self ⌝ }
+        ensures { λ r. ⌜ errorName self ≡ now r ⌝ }
     {
         match self {
             ErrorCode::MissingCustomerRecord => "missingCustomerRecord",

@@ -63,7 +63,7 @@ impl Point {
 
     /// The point's name in the trade.
     pub fn name(self) -> &'static str
-        ensures { λ r. ⌜ now r ≡ pointName self ⌝ }
+        ensures { λ r. ⌜ pointName self ≡ now r ⌝ }
     {
         match self {
             Point::OrigAttemptAuthorized => "origAttemptAuthorized",

@@ -47,7 +47,7 @@ impl Refusal {
 
     /// What the refusal means, for a person to read.
     pub fn meaning(self) -> &'static str
-        ensures { λ r. ⌜ now r ≡ refusalMeaning self ⌝ }
+        ensures { λ r. ⌜ refusalMeaning self ≡ now r ⌝ }
     {
         match self {
             Refusal::Room => "too little room",

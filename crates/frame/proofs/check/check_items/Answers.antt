@@ -1,9 +1,8 @@
 use mathlib.Core.Path.{sym}
-use Rattle.frame.proofs.Values.{items-twice}
+use Rattle.frame.proofs.Values.{items-checked}
 use Rattle.frame.proofs.check.check_items.Needs as need
 
-pub returns-then-some-twice : need.returns-then-some-twice
-returns-then-some-twice c = items-twice _ (c .as-slice-slice .result .now) (c .as-slice-slice .ensures .items) (c .as-slice-slice .ensures .few) (sym (c .if-is-empty .ensures tt)) _ (c .if-some-twice .ensures tt)
-
-pub returns-else-some-twice : need.returns-else-some-twice
-returns-else-some-twice c = items-twice _ (c .as-slice-slice .result .now) (c .as-slice-slice .ensures .items) (c .as-slice-slice .ensures .few) (sym (c .if-is-empty .ensures tt)) _ (c .if-some-twice .ensures tt)
+pub returns : need.returns
+returns c =
+    let slice = c .as-slice-slice in
+    items-checked _ (slice .result .now) _ (slice .ensures .items) (slice .ensures .few) (sym (c .if-is-empty .ensures tt)) (c .check-distinct .ensures)
