@@ -15,7 +15,7 @@ use Rattle.terms.specs.Points.{pointNumber}
 use Rattle.terms.specs.ErrorCodes.{errorNumber}
 use Rattle.terms.specs.declared.digits.Digits.{Digits}
 use Rattle.terms.specs.declared.error_code.ErrorCode.{ErrorCode}
-use Rattle.terms.proofs.Tests.{is-true, one-proof}
+use Rattle.terms.proofs.Tests.{is-true, made-same}
 use Rattle.terms.proofs.Padded.{padded-parts, padded-same}
 use Rattle.terms.proofs.Named.{digits-same, digits-few}
 use Rattle.terms.proofs.Numbered.{point-same, error-same}
@@ -63,18 +63,10 @@ itemBytes-same (x ∷ xs) (y ∷ ys) e =
 blank-only : (x : Item) → isBlank x ≡ true → x ≡ blank
 blank-only x e = let p = and-parts _ _ e in item-same x blank (eqb-true _ 1 (p .0)) (eqb-true _ 0 (p .1))
 
--- equal fields, and one proof that they are kept
-items-glue : (c d : ℕ) (e : c ≡ d) (xs ys : List Item) (l : xs ≡ ys) (p : T (padded isBlank 17 c xs)) (q : T (padded isBlank 17 d ys)) → _≡_ {A = Items} (record { count = c; items = xs; kept = p }) (record { count = d; items = ys; kept = q })
-items-glue c d e xs ys l p q =
-    subst (λ (k : ℕ). (q : T (padded isBlank 17 k ys)) → _≡_ {A = Items} (record { count = c; items = xs; kept = p }) (record { count = k; items = ys; kept = q })) e
-    (subst (λ (zs : List Item). (q : T (padded isBlank 17 c zs)) → _≡_ {A = Items} (record { count = c; items = xs; kept = p }) (record { count = c; items = zs; kept = q })) l
-    (λ q. ap (λ (o : T (padded isBlank 17 c xs)). record { count = c; items = xs; kept = o }) (one-proof _ p q)))
-    q
-
 items-same : (a b : Items) → itemBytes (itemsIn a) ≡ itemBytes (itemsIn b) → a ≡ b
 items-same a b e =
     let s = padded-same isBlank blank blank-only 17 (a .count) (b .count) (a .items) (b .items) (is-true _ (a .kept)) (is-true _ (b .kept)) (itemBytes-same _ _ e) in
-    items-glue _ _ (s .0) _ _ (s .1) (a .kept) (b .kept)
+    made-same (padded isBlank 17) (λ c xs p. record { count = c; items = xs; kept = p }) _ _ (s .0) _ _ (s .1) (a .kept) (b .kept)
 
 address-same : (a b : Digits) → addressBytes a ≡ addressBytes b → a ≡ b
 address-same a b e = digits-same a b (cc)
@@ -148,15 +140,15 @@ held-same (Some C.Cancel) x y e = refl
 held-same (Some C.ActivityTest) x y e = refl
 held-same None x y e = refl
 
-made-same : (k l : Option Code) (e : k ≡ l) (x : Held k) (y : Held l) → argument (make k x) ≡ argument (make l y) → make k x ≡ make l y
-made-same k l e x =
+of-code-same : (k l : Option Code) (e : k ≡ l) (x : Held k) (y : Held l) → argument (make k x) ≡ argument (make l y) → make k x ≡ make l y
+of-code-same k l e x =
     subst (λ (m : Option Code). (y : Held m) → argument (make k x) ≡ argument (make m y) → make k x ≡ make m y) e (λ y h. ap (make k) (held-same k x y h))
 
 operation-same : (p q : Operation) → codeIn p ≡ codeIn q → argument p ≡ argument q → p ≡ q
 operation-same p q e h =
     let x = held p in
     let y = held q in
-    sym (x .1) ∙ made-same (codeIn p) (codeIn q) e (x .0) (y .0) (ap argument (x .1) ∙ h ∙ sym (ap argument (y .1))) ∙ y .1
+    sym (x .1) ∙ of-code-same (codeIn p) (codeIn q) e (x .0) (y .0) (ap argument (x .1) ∙ h ∙ sym (ap argument (y .1))) ∙ y .1
 
 -- an operation's byte names it
 pub named : (k : Option Code) → codeAt (codeByte k) ≡ k

@@ -10,7 +10,7 @@ use Rattle.std.proofs.shelf.Tests.{and-from, and-left}
 use Rattle.std.specs.Options.{Cases}
 use Rattle.std.specs.declared.option.Option.{Option}
 use Rattle.std.specs.declared.option.Option.the-variants.{Some, None}
-use Rattle.terms.specs.Padding.{all}
+use Rattle.terms.specs.Each.{all}
 use Rattle.terms.specs.Points.{pointNumber}
 use Rattle.terms.specs.declared.point.Point.the-variants.{OrigAttemptAuthorized}
 use Rattle.terms.proofs.Numbered.{point-exists}

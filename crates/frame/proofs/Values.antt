@@ -14,7 +14,7 @@ use Rattle.std.specs.declared.result.Result.the-variants.{Ok, Err}
 use Rattle.terms.specs.Refusals.{refusalNumber}
 use Rattle.terms.specs.declared.refusal.Refusal.{Refusal}
 use Rattle.terms.specs.declared.refusal.Refusal.the-variants.{PointTwice}
-use Rattle.terms.specs.Padding.{all}
+use Rattle.terms.specs.Each.{all}
 use Rattle.terms.specs.Decimals.{isDigit, areDigits}
 use Rattle.frame.specs.Items.{itemBytes, spelt, isItem, someTwice}
 use Rattle.frame.specs.Format.{addressLength, addressFault, itemsLength, itemsFault}

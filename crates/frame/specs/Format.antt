@@ -7,7 +7,7 @@ use lib.ListN.{length, getD, drop}
 use Rattle.std.specs.declared.option.Option.{Option}
 use Rattle.std.specs.declared.option.Option.the-variants.{Some, None}
 use Rattle.terms.specs.Ranges.{within}
-use Rattle.terms.specs.Padding.{all}
+use Rattle.terms.specs.Each.{all}
 use Rattle.terms.specs.Decimals.{isDigit, mostDigits}
 use Rattle.terms.specs.ErrorCodes.{isErrorCode}
 use Rattle.terms.specs.Refusals.{refusalNumber}

@@ -2,7 +2,6 @@
 use mathlib.Core.Bool.{Bool, true, false, _&&_, _||_}
 use mathlib.Core.List.{List, [], _∷_}
 use Prim.Native.Nat.{ℕ}
-use lib.Chars.{codes}
 use lib.Dec.{leb, eqb}
 use Rattle.terms.specs.Points.{pointNumber, isPoint}
 use Rattle.frame.specs.declared.item.Mode.{Mode}
@@ -13,12 +12,6 @@ abbrev pub modeNumber : Mode → ℕ
 modeNumber Interrupt = 0
 modeNumber Notify = 1
 modeNumber Transparent = 2
-
--- the mode's name in the trade
-abbrev pub modeName : Mode → List ℕ
-modeName Interrupt = codes "interrupt"
-modeName Notify = codes "notify"
-modeName Transparent = codes "transparent"
 
 -- whether a number is that of a mode
 abbrev pub isMode : ℕ → Bool

@@ -1,4 +1,4 @@
--- The operations: the number of each, and the bytes of its argument.
+-- The operations: the number and the name of each, and the bytes of its argument.
 use mathlib.Core.Bool.{cond}
 use mathlib.Core.List.{List, [], _∷_}
 use Prim.Native.Nat.{ℕ, _/_, _%_}
@@ -34,23 +34,6 @@ codeNumber C.CallInformationRequest = 45
 codeNumber C.Cancel = 53
 codeNumber C.ActivityTest = 55
 
--- the operation's name in the trade
-abbrev pub codeName : Code → List ℕ
-codeName C.InitialDpError = codes "error to InitialDP"
-codeName C.EstablishTemporaryConnection = codes "EstablishTemporaryConnection"
-codeName C.DisconnectForwardConnection = codes "DisconnectForwardConnection"
-codeName C.ConnectToResource = codes "ConnectToResource"
-codeName C.Connect = codes "Connect"
-codeName C.ReleaseCall = codes "ReleaseCall"
-codeName C.RequestReportBcsmEvent = codes "RequestReportBCSMEvent"
-codeName C.CollectInformation = codes "CollectInformation"
-codeName C.Continue = codes "Continue"
-codeName C.ResetTimer = codes "ResetTimer"
-codeName C.ApplyCharging = codes "ApplyCharging"
-codeName C.CallInformationRequest = codes "CallInformationRequest"
-codeName C.Cancel = codes "Cancel"
-codeName C.ActivityTest = codes "ActivityTest"
-
 -- every operation
 abbrev pub operations : List Code
 operations =
@@ -84,6 +67,24 @@ codeIn O.CallInformationRequest = Some C.CallInformationRequest
 codeIn O.Cancel = Some C.Cancel
 codeIn O.ActivityTest = Some C.ActivityTest
 codeIn O.Unknown = None
+
+-- the operation's name in the trade
+abbrev pub operationName : Operation → List ℕ
+operationName (O.InitialDpError e) = codes "error to InitialDP"
+operationName (O.EstablishTemporaryConnection a) = codes "EstablishTemporaryConnection"
+operationName O.DisconnectForwardConnection = codes "DisconnectForwardConnection"
+operationName O.ConnectToResource = codes "ConnectToResource"
+operationName (O.Connect a) = codes "Connect"
+operationName (O.ReleaseCall v) = codes "ReleaseCall"
+operationName (O.RequestReportBcsmEvent xs) = codes "RequestReportBCSMEvent"
+operationName O.CollectInformation = codes "CollectInformation"
+operationName O.Continue = codes "Continue"
+operationName (O.ResetTimer t) = codes "ResetTimer"
+operationName O.ApplyCharging = codes "ApplyCharging"
+operationName O.CallInformationRequest = codes "CallInformationRequest"
+operationName O.Cancel = codes "Cancel"
+operationName O.ActivityTest = codes "ActivityTest"
+operationName O.Unknown = codes "unknown operation"
 
 -- an address: how many digits, then the digits
 abbrev pub addressBytes : Digits → List ℕ

@@ -1,7 +1,7 @@
 //! Which operation a frame asks for.
 ghost use mathlib.Core.Path.{_≡_};
 ghost use Rattle.std.specs.Options.{Cases as BySome};
-ghost use Rattle.frame.specs.Operations.{codeAt, codeName, codeNumber};
+ghost use Rattle.frame.specs.Operations.{codeAt, codeNumber};
 
 /// An operation without its argument.
 #[derive(Clone, Copy)]
@@ -24,7 +24,7 @@ pub enum Code {
 
 impl Code {
     /// The byte that stands for the operation.
-    pub fn number(self) -> u8
+    pub(crate) fn number(self) -> u8
         ensures { λ r. ⌜ r ≡ codeNumber self ⌝ }
     {
         self as u8
@@ -51,28 +51,6 @@ impl Code {
             53 => Some(Code::Cancel),
             55 => Some(Code::ActivityTest),
             _ => None,
-        }
-    }
-
-    /// The operation's name in the trade.
-    pub fn name(self) -> &'static str
-        ensures { λ r. ⌜ codeName self ≡ now r ⌝ }
-    {
-        match self {
-            Code::InitialDpError => "error to InitialDP",
-            Code::EstablishTemporaryConnection => "EstablishTemporaryConnection",
-            Code::DisconnectForwardConnection => "DisconnectForwardConnection",
-            Code::ConnectToResource => "ConnectToResource",
-            Code::Connect => "Connect",
-            Code::ReleaseCall => "ReleaseCall",
-            Code::RequestReportBcsmEvent => "RequestReportBCSMEvent",
-            Code::CollectInformation => "CollectInformation",
-            Code::Continue => "Continue",
-            Code::ResetTimer => "ResetTimer",
-            Code::ApplyCharging => "ApplyCharging",
-            Code::CallInformationRequest => "CallInformationRequest",
-            Code::Cancel => "Cancel",
-            Code::ActivityTest => "ActivityTest",
         }
     }
 }

@@ -3,7 +3,7 @@ ghost use mathlib.Core.Path.{_≡_};
 ghost use mathlib.Core.Bool.{false};
 ghost use Rattle.std.specs.Options.{Cases as BySome};
 ghost use Rattle.terms.specs.Points.{pointNumber};
-ghost use Rattle.frame.specs.Items.{isItem, isMode, modeName, modeNumber};
+ghost use Rattle.frame.specs.Items.{isItem, isMode, modeNumber};
 use terms::point::Point;
 
 /// What the exchange does when the call comes to a detection point.
@@ -34,17 +34,6 @@ impl Mode {
             1 => Some(Mode::Notify),
             2 => Some(Mode::Transparent),
             _ => None,
-        }
-    }
-
-    /// The mode's name in the trade.
-    pub fn name(self) -> &'static str
-        ensures { λ r. ⌜ modeName self ≡ now r ⌝ }
-    {
-        match self {
-            Mode::Interrupt => "interrupt",
-            Mode::Notify => "notify",
-            Mode::Transparent => "transparent",
         }
     }
 }

@@ -1,6 +1,6 @@
 //! What a frame says.
 ghost use mathlib.Core.Path.{_≡_};
-ghost use Rattle.frame.specs.Operations.{codeIn};
+ghost use Rattle.frame.specs.Operations.{codeIn, operationName};
 use crate::code::Code;
 use crate::items::Items;
 use terms::digits::Digits;
@@ -43,7 +43,7 @@ pub enum Operation {
 
 impl Operation {
     /// Which operation this is, unless it is one outside the list.
-    pub fn code(&self) -> Option<Code>
+    pub(crate) fn code(&self) -> Option<Code>
         ensures { λ r. ⌜ r ≡ codeIn (now (self .entry)) ⌝ }
     {
         match self {
@@ -62,6 +62,29 @@ impl Operation {
             Operation::Cancel => Some(Code::Cancel),
             Operation::ActivityTest => Some(Code::ActivityTest),
             Operation::Unknown => None,
+        }
+    }
+
+    /// The operation's name in the trade.
+    pub fn name(&self) -> &'static str
+        ensures { λ r. ⌜ operationName (now (self .entry)) ≡ now r ⌝ }
+    {
+        match self {
+            Operation::InitialDpError(_) => "error to InitialDP",
+            Operation::EstablishTemporaryConnection(_) => "EstablishTemporaryConnection",
+            Operation::DisconnectForwardConnection => "DisconnectForwardConnection",
+            Operation::ConnectToResource => "ConnectToResource",
+            Operation::Connect(_) => "Connect",
+            Operation::ReleaseCall(_) => "ReleaseCall",
+            Operation::RequestReportBcsmEvent(_) => "RequestReportBCSMEvent",
+            Operation::CollectInformation => "CollectInformation",
+            Operation::Continue => "Continue",
+            Operation::ResetTimer(_) => "ResetTimer",
+            Operation::ApplyCharging => "ApplyCharging",
+            Operation::CallInformationRequest => "CallInformationRequest",
+            Operation::Cancel => "Cancel",
+            Operation::ActivityTest => "ActivityTest",
+            Operation::Unknown => "unknown operation",
         }
     }
 }

@@ -16,20 +16,20 @@ use words::print_frame;
 /// The most bytes that a line may spell: more than any frame has, so that too long a frame gets the reader's refusal.
 const MOST_BYTES: usize = 128;
 
-fn print_help(rt: &LibcRuntime) -> io::Result<()> {
-    println!(rt, "usage: frame_tool < LINES")?;
-    println!(
-        rt,
-        "Each line is a frame in capital hexadecimal. For each the tool prints"
-    )?;
-    println!(
-        rt,
-        "what the frame says, and whether it is the same bytes when it is written"
-    )?;
-    println!(
-        rt,
-        "again; or the number of the refusal, and what it means."
-    )
+const HELP: &str = "usage: frame_tool < LINES
+Each line is a frame in capital hexadecimal. For each the tool prints what the
+frame says, and whether it is the same bytes when it is written again; or the
+number of the refusal, what it means, and the error code that answers it.";
+
+fn print_refusal(rt: &LibcRuntime, refusal: Refusal) -> io::Result<()> {
+    let number = refusal.number();
+    print!(rt, "refused by {number}: {refusal}")?;
+    if let Some(error) = refusal.error_code() {
+        let number = error.number();
+        let name = error.name();
+        print!(rt, "; answered by {number} {name}")?;
+    }
+    println!(rt)
 }
 
 fn print_bytes(rt: &LibcRuntime, bytes: &[u8]) -> io::Result<()> {
@@ -39,10 +39,7 @@ fn print_bytes(rt: &LibcRuntime, bytes: &[u8]) -> io::Result<()> {
             let same = if finding.same { "the same" } else { "OTHER" };
             println!(rt, "; written again: {same} bytes")
         }
-        Err(refusal) => {
-            let number = refusal.number();
-            println!(rt, "refused by {number}: {refusal}")
-        }
+        Err(refusal) => print_refusal(rt, refusal),
     }
 }
 
@@ -56,7 +53,7 @@ fn print_line(rt: &LibcRuntime, line: &[u8]) -> io::Result<()> {
 
 fn main(rt: LibcRuntime) -> io::Result<()> {
     if env::args(&rt)?.count() > 1 {
-        return print_help(&rt);
+        return println!(rt, "{HELP}");
     }
     let lines = BufReader::new(rt.stdin()).split(rt.alloc(), b'\n');
     for (i, line) in lines.enumerate() {

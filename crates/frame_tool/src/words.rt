@@ -1,14 +1,23 @@
 //! Saying in words what a frame is.
 use frame::Frame;
 use frame::Item;
+use frame::Mode;
 use frame::Operation;
 use std::io;
 use terms::digits::DigitsDisplay;
 
+fn mode_word(mode: Mode) -> &'static str {
+    match mode {
+        Mode::Interrupt => "interrupt",
+        Mode::Notify => "notify",
+        Mode::Transparent => "transparent",
+    }
+}
+
 fn print_item(rt: &LibcRuntime, item: Item) -> io::Result<()> {
     let point = item.point.number();
     let name = item.point.name();
-    let mode = item.mode.name();
+    let mode = mode_word(item.mode);
     print!(rt, " {point} {name} {mode}")
 }
 
@@ -45,10 +54,7 @@ fn print_argument(rt: &LibcRuntime, operation: &Operation) -> io::Result<()> {
 pub(crate) fn print_frame(rt: &LibcRuntime, frame: &Frame) -> io::Result<()> {
     let dialogue = frame.dialogue;
     let invoke = frame.invoke;
-    let name = match frame.operation.code() {
-        Some(code) => code.name(),
-        None => "unknown operation",
-    };
+    let name = frame.operation.name();
     print!(rt, "dialogue {dialogue}, invoke {invoke}: {name}")?;
     print_argument(rt, &frame.operation)
 }

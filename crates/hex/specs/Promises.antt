@@ -6,7 +6,7 @@ use Prim.Native.Nat.{ℕ, _*_, _%_, _≤_, _<_}
 use lib.ListN.{length, getD, take, drop}
 use Rattle.std.specs.declared.result.Result.{Result}
 use Rattle.std.specs.declared.result.Result.the-variants.{Ok, Err}
-use Rattle.terms.specs.Padding.{all}
+use Rattle.terms.specs.Each.{all}
 use Rattle.hex.specs.Text.{bytesOf, isHexDigit}
 use Rattle.hex.specs.declared.fault.HexFault.{HexFault}
 use Rattle.hex.specs.declared.fault.HexFault.the-variants.{TooLong, Character, Odd}

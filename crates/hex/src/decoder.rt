@@ -6,7 +6,7 @@ ghost use Prim.Native.Nat.{ℕ, _+_, _*_, _%_, _≤_, _<_};
 ghost use lib.ListN.{length, drop};
 ghost use Rattle.std.specs.Options.{Cases as BySome};
 ghost use Rattle.std.specs.Vec.{made};
-ghost use Rattle.terms.specs.Padding.{all};
+ghost use Rattle.terms.specs.Each.{all};
 ghost use Rattle.hex.specs.Text.{bytesOf, digitValue, isHexDigit};
 ghost use Rattle.hex.specs.Promises.{Decodes, FirstOther};
 use crate::fault::HexFault;

@@ -7,7 +7,7 @@ use native.Mathlib.Omega.{arith}
 use lib.ListN.{length, getD, take}
 use Rattle.std.proofs.shelf.Lists.{take-all, take-more}
 use Rattle.std.proofs.shelf.Tests.{and-from, and-parts}
-use Rattle.terms.specs.Padding.{all}
+use Rattle.terms.specs.Each.{all}
 
 module _ {X : Type 0} (p : X → Bool) where
   all-push : (xs : List X) (x : X) → all p xs ≡ true → p x ≡ true → all p (xs ++ x ∷ []) ≡ true

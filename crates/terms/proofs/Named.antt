@@ -9,28 +9,21 @@ use lib.ListN.{length, take}
 use mathlib.Core.Path.{ap, sym, _∙_}
 use Rattle.std.proofs.shelf.Lists.{length-take-le}
 use Rattle.std.proofs.shelf.Tests.{and-parts, and-from, le-leb, eqb-true}
-use Rattle.terms.specs.Padding.{all, padded}
+use Rattle.terms.specs.Each.{all}
+use Rattle.terms.specs.Padding.{padded}
 use Rattle.terms.specs.Decimals.{isDigit, areDigits, keptDigits}
 use Rattle.terms.specs.Digits.{ascii}
 use Rattle.terms.specs.declared.digits.Digits.{Digits}
-use Rattle.terms.proofs.Tests.{is-true, one-proof}
+use Rattle.terms.proofs.Tests.{is-true, made-same}
 use Rattle.terms.proofs.Padded.{padded-parts, padded-same}
 
 parts : (d : Digits) → (padded (λ b. eqb b 0) 15 (d .count) (d .bytes) ≡ true) × (all isDigit (ascii d) ≡ true)
 parts d = and-parts _ _ (is-true _ (d .kept))
 
--- equal fields, and one proof that they are kept
-glue : (c d : ℕ) (e : c ≡ d) (xs ys : List ℕ) (l : xs ≡ ys) (p : T (keptDigits c xs)) (q : T (keptDigits d ys)) → _≡_ {A = Digits} (record { count = c; bytes = xs; kept = p }) (record { count = d; bytes = ys; kept = q })
-glue c d e xs ys l p q =
-    subst (λ (k : ℕ). (q : T (keptDigits k ys)) → _≡_ {A = Digits} (record { count = c; bytes = xs; kept = p }) (record { count = k; bytes = ys; kept = q })) e
-    (subst (λ (zs : List ℕ). (q : T (keptDigits c zs)) → _≡_ {A = Digits} (record { count = c; bytes = xs; kept = p }) (record { count = c; bytes = zs; kept = q })) l
-    (λ q. ap (λ (o : T (keptDigits c xs)). record { count = c; bytes = xs; kept = o }) (one-proof _ p q)))
-    q
-
 pub digits-same : (d e : Digits) → ascii d ≡ ascii e → d ≡ e
 digits-same d e h =
     let s = padded-same (λ b. eqb b 0) 0 (λ x t. eqb-true x 0 t) 15 (d .count) (e .count) (d .bytes) (e .bytes) (parts d .0) (parts e .0) h in
-    glue _ _ (s .0) _ _ (s .1) (d .kept) (e .kept)
+    made-same keptDigits (λ c bs p. record { count = c; bytes = bs; kept = p }) _ _ (s .0) _ _ (s .1) (d .kept) (e .kept)
 
 pub digits-length : (d : Digits) → length (ascii d) ≡ d .count
 digits-length d = let p = padded-parts (λ b. eqb b 0) 15 (d .count) (d .bytes) (parts d .0) in length-take-le (d .count) (d .bytes) (omega arith)

@@ -8,7 +8,8 @@ use lib.Dec.{leb, eqb}
 use lib.ListN.{length, take, drop, length-drop, take-append-drop}
 use Rattle.std.proofs.shelf.Lists.{length-append, length-take-le, drop-at, take-at}
 use Rattle.std.proofs.shelf.Tests.{and-parts, and-from, le-leb, eq-eqb, leb-true, eqb-true}
-use Rattle.terms.specs.Padding.{all, padded}
+use Rattle.terms.specs.Each.{all}
+use Rattle.terms.specs.Padding.{padded}
 
 module _ {X : Type 0} (blank : X → Bool) where
   all-drop : (n : ℕ) (xs : List X) → all blank xs ≡ true → all blank (drop n xs) ≡ true

@@ -5,7 +5,8 @@ use Prim.Native.Nat.{ℕ}
 use lib.Dec.{leb, eqb}
 use lib.ListN.{length, take}
 use Rattle.terms.specs.Ranges.{within}
-use Rattle.terms.specs.Padding.{all, padded}
+use Rattle.terms.specs.Each.{all}
+use Rattle.terms.specs.Padding.{padded}
 
 -- at most this many digits
 abbrev pub mostDigits : ℕ

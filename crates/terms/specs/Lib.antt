@@ -1,4 +1,5 @@
 pub mod Ranges
+pub mod Each
 pub mod Padding
 pub mod Decimals
 pub mod Digits

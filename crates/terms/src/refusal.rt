@@ -1,5 +1,6 @@
 //! Refusals: why an input is not taken.
 ghost use mathlib.Core.Path.{_≡_};
+ghost use lib.Dec.{eqb};
 ghost use Rattle.terms.specs.Refusals.{refusalNumber, refusalError, refusalMeaning};
 ghost use Rattle.std.specs.declared.option.Option.the-variants.{Some};
 use crate::error_code::ErrorCode;
@@ -7,7 +8,7 @@ use std::error::Error;
 use std::fmt;
 
 /// The first fault of an input. What is refused changes nothing.
-#[derive(Clone, Copy, PartialEq, Eq, Debug)]
+#[derive(Clone, Copy, Eq, Debug)]
 pub enum Refusal {
     Room = 1,
     FrameLength = 2,
@@ -46,7 +47,7 @@ impl Refusal {
     }
 
     /// What the refusal means, for a person to read.
-    pub fn meaning(self) -> &'static str
+    fn meaning(self) -> &'static str
         ensures { λ r. ⌜ refusalMeaning self ≡ now r ⌝ }
     {
         match self {
@@ -60,6 +61,15 @@ impl Refusal {
             Refusal::Value => "argument value or digits not allowed",
             Refusal::PointTwice => "detection point twice in one frame",
         }
+    }
+}
+
+/// Two refusals are equal where their numbers are.
+pub impl PartialEq<Refusal> for Refusal as RefusalPartialEq {
+    ghost equals = { λ d e r. r ≡ eqb (refusalNumber d) (refusalNumber e) };
+
+    fn eq(&self, other: &Refusal) -> bool {
+        self.number() == other.number()
     }
 }
 

@@ -6,7 +6,7 @@ ghost use lib.Dec.{eqb};
 ghost use lib.ListN.{length};
 ghost use Rattle.std.specs.Options.{Cases as BySome};
 ghost use Rattle.std.specs.declared.option.Option.the-variants.{Some};
-ghost use Rattle.terms.specs.Padding.{all};
+ghost use Rattle.terms.specs.Each.{all};
 ghost use Rattle.terms.specs.Decimals.{areDigits, isDigit, mostDigits};
 ghost use Rattle.terms.specs.Digits.{ascii};
 use super::Digits;

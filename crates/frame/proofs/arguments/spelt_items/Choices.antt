@@ -1,7 +1,7 @@
 use mathlib.Core.Path.{_≡_}
 use Prim.Native.Nat.{_*_}
 use lib.ListN.{length, take, drop}
-use Rattle.terms.specs.Padding.{all}
+use Rattle.terms.specs.Each.{all}
 use Rattle.frame.specs.Items.{itemBytes, spelt, isItem}
 use Rattle.frame.proofs.arguments.spelt_items.Given as given
 

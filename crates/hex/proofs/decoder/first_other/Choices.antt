@@ -1,7 +1,7 @@
 use mathlib.Core.Path.{_≡_}
 use mathlib.Core.Bool.{true}
 use lib.ListN.{take}
-use Rattle.terms.specs.Padding.{all}
+use Rattle.terms.specs.Each.{all}
 use Rattle.hex.specs.Text.{isHexDigit}
 use Rattle.hex.proofs.decoder.first_other.Given as given
 

@@ -1,5 +1,5 @@
 use mathlib.Core.Path.{refl, sym}
-use Rattle.terms.specs.Padding.{all}
+use Rattle.terms.specs.Each.{all}
 use Rattle.terms.specs.Decimals.{isDigit}
 use Rattle.terms.proofs.Walks.{all-step, all-stop, at-end}
 use Rattle.terms.proofs.digits.methods.all_digits.Needs as need

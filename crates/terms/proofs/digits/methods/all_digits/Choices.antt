@@ -1,6 +1,6 @@
 use mathlib.Core.Path.{_≡_}
 use lib.ListN.{drop}
-use Rattle.terms.specs.Padding.{all}
+use Rattle.terms.specs.Each.{all}
 use Rattle.terms.specs.Decimals.{isDigit}
 use Rattle.terms.proofs.digits.methods.all_digits.Given as given
 
