@@ -8,7 +8,6 @@ use lib.Dec.{leb, eqb}
 use lib.ListN.{length, getD, take, drop, length-drop}
 use Rattle.std.proofs.shelf.Lists.{take-rest}
 use Rattle.std.proofs.shelf.Tests.{le-leb, eq-eqb, eqb-false, and-from, cond-true, cond-false}
-use Rattle.std.specs.Results.{Cases}
 use Rattle.std.specs.declared.result.Result.{Result}
 use Rattle.std.specs.declared.result.Result.the-variants.{Ok, Err}
 use Rattle.terms.specs.Refusals.{refusalNumber}
@@ -18,6 +17,7 @@ use Rattle.terms.specs.Each.{all}
 use Rattle.terms.specs.Decimals.{isDigit, areDigits}
 use Rattle.frame.specs.Items.{itemBytes, spelt, isItem, someTwice}
 use Rattle.frame.specs.Format.{addressLength, addressFault, itemsLength, itemsFault}
+use Rattle.frame.specs.Steps.{Checks}
 use Rattle.frame.specs.declared.item.Item.{Item}
 use Rattle.frame.proofs.Spelling.{item-exists, length-itemBytes}
 
@@ -45,12 +45,9 @@ items-twice xs ys e few some =
     let right : itemsLength (itemBytes xs) ≡ true = and-from _ _ (and-from _ _ (le-leb 2 _ low) (le-leb _ 34 (omega arith))) (eq-eqb _ _ (omega arith)) in
     cond-true _ _ _ right ∙ cond-true _ _ _ (items-exist xs) ∙ sym (ap (λ l. cond (someTwice (spelt (itemBytes l))) (refusalNumber PointTwice) 0) e)
 
-abbrev Checked : ℕ → Result (Unit {0}) Refusal → Type 0
-Checked f r = Cases r (λ _. f ≡ 0) (λ e. f ≡ refusalNumber e)
+by-twice : (twice : Bool) (f : ℕ) (r : Result (Unit {0}) Refusal) → f ≡ cond twice (refusalNumber PointTwice) 0 → r ≡ cond twice (Err PointTwice) (Ok tt) → Checks f r
+by-twice true f r e h = subst (Checks f) (sym h) e
+by-twice false f r e h = subst (Checks f) (sym h) e
 
-by-twice : (twice : Bool) (f : ℕ) (r : Result (Unit {0}) Refusal) → f ≡ cond twice (refusalNumber PointTwice) 0 → r ≡ cond twice (Err PointTwice) (Ok tt) → Checked f r
-by-twice true f r e h = subst (Checked f) (sym h) e
-by-twice false f r e h = subst (Checked f) (sym h) e
-
-pub items-checked : (xs ys : List Item) (r : Result (Unit {0}) Refusal) → ys ≡ xs → length ys ≤ 17 → eqb (length ys) 0 ≡ false → r ≡ cond (someTwice (spelt (itemBytes ys))) (Err PointTwice) (Ok tt) → Checked (itemsFault (itemBytes xs)) r
+pub items-checked : (xs ys : List Item) (r : Result (Unit {0}) Refusal) → ys ≡ xs → length ys ≤ 17 → eqb (length ys) 0 ≡ false → r ≡ cond (someTwice (spelt (itemBytes ys))) (Err PointTwice) (Ok tt) → Checks (itemsFault (itemBytes xs)) r
 items-checked xs ys r e few some h = by-twice (someTwice (spelt (itemBytes ys))) (itemsFault (itemBytes xs)) r (items-twice xs ys e few some) h

@@ -11,21 +11,13 @@ use Rattle.terms.specs.declared.refusal.Refusal.{Refusal}
 use Rattle.terms.specs.declared.refusal.Refusal.the-variants as R
 use Rattle.terms.specs.Refusals.{refusalNumber}
 use Rattle.frame.specs.Limits.{longestFrame}
-use Rattle.frame.specs.Operations.{argument, codeIn}
-use Rattle.frame.specs.Format.{codeByte, fault, frameFault, versionFault, wire}
+use Rattle.frame.specs.Format.{fault, frameFault, wire}
 use Rattle.frame.specs.declared.operation.Frame.{Frame}
 
 -- reading: the frame whose bytes these are, where they have no fault; else the first fault
 abbrev pub Reads : List ℕ → Result Frame Refusal → Type 0
 Reads bs (Ok f) = (fault bs ≡ 0) × (wire f ≡ bs)
 Reads bs (Err e) = fault bs ≡ refusalNumber e
-
--- the same of what stands behind the length: a version, a dialogue, an operation's number, an invoke number, an argument
-abbrev pub Contains : ℕ → ℕ → ℕ → ℕ → List ℕ → Result Frame Refusal → Type 0
-Contains v d n i arg (Ok f) =
-    (versionFault v d n i arg ≡ 0) × (f .dialogue ≡ d) × (f .invoke ≡ i) × (codeByte (codeIn (f .operation)) ≡ n) ×
-    (argument (f .operation) ≡ arg)
-Contains v d n i arg (Err e) = versionFault v d n i arg ≡ refusalNumber e
 
 -- the first fault of a frame that is to be written into so much room
 abbrev pub writeFault : ℕ → Frame → ℕ

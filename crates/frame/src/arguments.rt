@@ -6,14 +6,13 @@ ghost use Prim.Native.Nat.{ℕ, _/_, _%_, _≤_};
 ghost use lib.ListN.{length};
 ghost use Rattle.std.specs.Options.{Cases as BySome};
 ghost use Rattle.terms.specs.Each.{all};
-ghost use Rattle.std.specs.Results.{Cases};
 ghost use Rattle.std.specs.declared.option.Option.the-variants.{Some};
 ghost use Rattle.terms.specs.ErrorCodes.{errorNumber};
-ghost use Rattle.terms.specs.Refusals.{refusalNumber};
 ghost use Rattle.frame.specs.Limits.{itemSize, longestArgument};
 ghost use Rattle.frame.specs.Items.{itemBytes, spelt, isItem};
 ghost use Rattle.frame.specs.Operations.{addressBytes, argument, codeIn, itemsIn};
 ghost use Rattle.frame.specs.Format.{noneFault, errorFault, causeFault, ticksFault, addressFault, itemsFault, argumentFault};
+ghost use Rattle.frame.specs.Steps.{GivesOr};
 use crate::code::Code;
 use crate::item::Item;
 use crate::items::Items;
@@ -27,7 +26,7 @@ use terms::refusal::Refusal;
 
 /// The operation that has no argument.
 fn bare(operation: Operation, bytes: &[u8]) -> Result<Operation, Refusal>
-    ensures { λ r. ⌜ Cases r (λ v. (v ≡ operation) × (now (bytes .entry) ≡ [])) (λ e. noneFault (now (bytes .entry)) ≡ refusalNumber e) ⌝ }
+    ensures { λ r. ⌜ GivesOr (noneFault (now (bytes .entry))) (λ v. (v ≡ operation) × (now (bytes .entry) ≡ [])) r ⌝ }
 {
     if bytes.is_empty() {
         Ok(operation)
@@ -38,7 +37,7 @@ fn bare(operation: Operation, bytes: &[u8]) -> Result<Operation, Refusal>
 
 /// The one byte of an argument.
 fn byte(bytes: &[u8]) -> Result<u8, Refusal>
-    ensures { λ r. ⌜ Cases r (λ v. now (bytes .entry) ≡ v ∷ []) (λ e. causeFault (now (bytes .entry)) ≡ refusalNumber e) ⌝ }
+    ensures { λ r. ⌜ GivesOr (causeFault (now (bytes .entry))) (λ v. now (bytes .entry) ≡ v ∷ []) r ⌝ }
 {
     match bytes {
         [v] => Ok(*v),
@@ -48,7 +47,7 @@ fn byte(bytes: &[u8]) -> Result<u8, Refusal>
 
 /// An error code in one byte.
 fn error_code(bytes: &[u8]) -> Result<ErrorCode, Refusal>
-    ensures { λ r. ⌜ Cases r (λ v. now (bytes .entry) ≡ errorNumber v ∷ []) (λ e. errorFault (now (bytes .entry)) ≡ refusalNumber e) ⌝ }
+    ensures { λ r. ⌜ GivesOr (errorFault (now (bytes .entry))) (λ v. now (bytes .entry) ≡ errorNumber v ∷ []) r ⌝ }
 {
     match bytes {
         [v] => match ErrorCode::from_number(*v) {
@@ -61,7 +60,7 @@ fn error_code(bytes: &[u8]) -> Result<ErrorCode, Refusal>
 
 /// A number of ticks in two bytes.
 fn ticks(bytes: &[u8]) -> Result<u16, Refusal>
-    ensures { λ r. ⌜ Cases r (λ v. now (bytes .entry) ≡ (v / 256) ∷ (v % 256) ∷ []) (λ e. ticksFault (now (bytes .entry)) ≡ refusalNumber e) ⌝ }
+    ensures { λ r. ⌜ GivesOr (ticksFault (now (bytes .entry))) (λ v. now (bytes .entry) ≡ (v / 256) ∷ (v % 256) ∷ []) r ⌝ }
 {
     match bytes {
         [high, low] => Ok(256 * u16::from(*high) + u16::from(*low)),
@@ -71,7 +70,7 @@ fn ticks(bytes: &[u8]) -> Result<u16, Refusal>
 
 /// An address: a count, and as many digits.
 fn address(bytes: &[u8]) -> Result<Digits, Refusal>
-    ensures { λ r. ⌜ Cases r (λ a. addressBytes a ≡ now (bytes .entry)) (λ e. addressFault (now (bytes .entry)) ≡ refusalNumber e) ⌝ }
+    ensures { λ r. ⌜ GivesOr (addressFault (now (bytes .entry))) (λ a. addressBytes a ≡ now (bytes .entry)) r ⌝ }
 {
     let n = bytes.len();
     if n < 2 || n > 1 + MOST_DIGITS || bytes[0] as usize + 1 != n {
@@ -98,7 +97,7 @@ fn spelt_items(bytes: &[u8]) -> Option<Items>
 
 /// Items: one or more, each of the same size.
 fn items(bytes: &[u8]) -> Result<Items, Refusal>
-    ensures { λ r. ⌜ Cases r (λ xs. itemBytes (itemsIn xs) ≡ now (bytes .entry)) (λ e. itemsFault (now (bytes .entry)) ≡ refusalNumber e) ⌝ }
+    ensures { λ r. ⌜ GivesOr (itemsFault (now (bytes .entry))) (λ xs. itemBytes (itemsIn xs) ≡ now (bytes .entry)) r ⌝ }
 {
     let n = bytes.len();
     if n < ITEM_SIZE || n > MOST_ITEMS * ITEM_SIZE || n % ITEM_SIZE != 0 {
@@ -112,7 +111,7 @@ fn items(bytes: &[u8]) -> Result<Items, Refusal>
 
 /// The operation with its argument, or the fault by which the bytes spell none.
 pub(crate) fn operation(code: Code, bytes: &[u8]) -> Result<Operation, Refusal>
-    ensures { λ r. ⌜ Cases r (λ v. (codeIn v ≡ Some code) × (argument v ≡ now (bytes .entry))) (λ e. argumentFault code (now (bytes .entry)) ≡ refusalNumber e) ⌝ }
+    ensures { λ r. ⌜ GivesOr (argumentFault code (now (bytes .entry))) (λ v. (codeIn v ≡ Some code) × (argument v ≡ now (bytes .entry))) r ⌝ }
 {
     match code {
         Code::InitialDpError => Ok(Operation::InitialDpError(error_code(bytes)?)),

@@ -1,18 +1,15 @@
 //! What reader and writer both ask of a frame, in the order of the faults.
 ghost use mathlib.Core.Path.{_≡_};
 ghost use mathlib.Core.Bool.{cond};
-ghost use mathlib.Core.List.{List};
-ghost use Prim.Native.Nat.{ℕ};
 ghost use lib.Dec.{leb};
-ghost use Rattle.std.specs.Results.{Cases};
 ghost use Rattle.std.specs.declared.option.Option.the-variants.{Some};
 ghost use Rattle.std.specs.declared.result.Result.the-variants.{Ok, Err};
 ghost use Rattle.terms.specs.Points.{pointNumber};
-ghost use Rattle.terms.specs.Refusals.{refusalNumber};
 ghost use Rattle.frame.specs.Limits.{lastDialogue, lastInvoke};
 ghost use Rattle.frame.specs.Items.{itemBytes, spelt, hasPoint, someTwice};
 ghost use Rattle.frame.specs.Operations.{addressBytes, argument, codeIn, itemsIn};
-ghost use Rattle.frame.specs.Format.{addressFault, argumentFault, itemsFault, contentFault, frameFault, operationFault};
+ghost use Rattle.frame.specs.Format.{addressFault, frameFault, itemsFault, operationFault};
+ghost use Rattle.frame.specs.Steps.{Checks, ChecksHead, GivesOr};
 use crate::code::Code;
 use crate::item::Item;
 use crate::items::Items;
@@ -49,7 +46,7 @@ fn check_invoke(invoke: u8) -> Result<(), Refusal>
 
 /// The operation's code, if dialogue, operation and invoke number are ones that a frame can carry.
 pub(crate) fn check_head(dialogue: u8, code: Option<Code>, invoke: u8) -> Result<Code, Refusal>
-    ensures { λ r. ⌜ Cases r (λ k. (code ≡ Some k) × ((arg : List ℕ) → contentFault dialogue code invoke arg ≡ argumentFault k arg)) (λ e. (arg : List ℕ) → contentFault dialogue code invoke arg ≡ refusalNumber e) ⌝ }
+    ensures { λ r. ⌜ ChecksHead dialogue code invoke r ⌝ }
 {
     check_dialogue(dialogue)?;
     let code = code.ok_or(Refusal::Operation)?;
@@ -84,7 +81,7 @@ fn some_twice(items: &[Item]) -> bool
 
 /// An address has at least one digit.
 fn check_address(address: &Digits) -> Result<(), Refusal>
-    ensures { λ r. ⌜ Cases r (λ _. addressFault (addressBytes (now (address .entry))) ≡ 0) (λ e. addressFault (addressBytes (now (address .entry))) ≡ refusalNumber e) ⌝ }
+    ensures { λ r. ⌜ Checks (addressFault (addressBytes (now (address .entry)))) r ⌝ }
 {
     if address.as_ascii().is_empty() {
         Err(Refusal::ArgumentLength)
@@ -106,7 +103,7 @@ fn check_distinct(items: &[Item]) -> Result<(), Refusal>
 
 /// There is at least one item, and no point comes twice.
 fn check_items(items: &Items) -> Result<(), Refusal>
-    ensures { λ r. ⌜ Cases r (λ _. itemsFault (itemBytes (itemsIn (now (items .entry)))) ≡ 0) (λ e. itemsFault (itemBytes (itemsIn (now (items .entry)))) ≡ refusalNumber e) ⌝ }
+    ensures { λ r. ⌜ Checks (itemsFault (itemBytes (itemsIn (now (items .entry))))) r ⌝ }
 {
     let slice = items.as_slice();
     if slice.is_empty() {
@@ -124,7 +121,7 @@ fn check_value(allowed: bool) -> Result<(), Refusal>
 
 /// Whether the operation's argument is one that a frame can carry; the invoke number does not matter to it.
 pub(crate) fn check_argument(operation: &Operation) -> Result<(), Refusal>
-    ensures { λ r. ⌜ Cases r (λ _. operationFault (codeIn (now (operation .entry))) 0 (argument (now (operation .entry))) ≡ 0) (λ e. operationFault (codeIn (now (operation .entry))) 0 (argument (now (operation .entry))) ≡ refusalNumber e) ⌝ }
+    ensures { λ r. ⌜ Checks (operationFault (codeIn (now (operation .entry))) 0 (argument (now (operation .entry)))) r ⌝ }
 {
     match operation {
         Operation::EstablishTemporaryConnection(address) => check_address(address),
@@ -139,7 +136,7 @@ pub(crate) fn check_argument(operation: &Operation) -> Result<(), Refusal>
 
 /// The code of a frame's operation, if the frame can be written.
 pub(crate) fn check_frame(frame: &Frame) -> Result<Code, Refusal>
-    ensures { λ r. ⌜ Cases r (λ k. (codeIn (now (frame .entry) .operation) ≡ Some k) × (frameFault (now (frame .entry)) ≡ 0)) (λ e. frameFault (now (frame .entry)) ≡ refusalNumber e) ⌝ }
+    ensures { λ r. ⌜ GivesOr (frameFault (now (frame .entry))) (λ k. (codeIn (now (frame .entry) .operation) ≡ Some k) × (frameFault (now (frame .entry)) ≡ 0)) r ⌝ }
 {
     let code = check_head(frame.dialogue, frame.operation.code(), frame.invoke)?;
     check_argument(&frame.operation)?;

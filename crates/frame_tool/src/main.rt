@@ -2,7 +2,6 @@
 mod words;
 
 use frame_check::examine;
-use hex::HexFault;
 use hex::decode;
 use hex::fault::HexFaultDisplay;
 use std::env;

@@ -1,10 +1,8 @@
 //! Making items, and reading them.
 ghost use mathlib.Core.Path.{_≡_};
-ghost use mathlib.Core.Bool.{true, false};
 ghost use Prim.Native.Nat.{ℕ, _≤_, _<_};
 ghost use lib.ListN.{length};
 ghost use Rattle.std.specs.Options.{Cases as BySome};
-ghost use Rattle.terms.specs.Each.{all};
 ghost use Rattle.frame.specs.Limits.{mostItems};
 ghost use Rattle.frame.specs.Operations.{itemsIn};
 use super::Items;
