@@ -1,18 +1,17 @@
 -- One reading: two operations of one number and one argument are the same, and so are two frames of the same bytes.
 use mathlib.Core.Path.{_≡_, refl, sym, ap, subst, _∙_}
-use mathlib.Core.Bool.{Bool, true, _&&_}
+use mathlib.Core.Bool.{true}
 use mathlib.Core.List.{List, [], _∷_}
-use Prim.Native.Nat.{ℕ, _+_, _*_, _/_, _%_, _≤_}
+use Prim.Native.Nat.{ℕ, _/_, _%_, _≤_}
 use native.Mathlib.Omega.{arith}
-use lib.Dec.{T, eqb, lit≤}
-use lib.ListN.{length, getD, take, drop}
+use lib.Dec.{lit≤}
+use lib.ListN.{length, getD, drop}
 use Rattle.std.proofs.shelf.Lists.{length-take-le}
 use Rattle.std.proofs.shelf.Tests.{and-parts, eqb-true}
 use Rattle.std.specs.declared.option.Option.{Option}
 use Rattle.std.specs.declared.option.Option.the-variants.{Some, None}
 use Rattle.terms.specs.Padding.{padded}
 use Rattle.terms.specs.Points.{pointNumber}
-use Rattle.terms.specs.ErrorCodes.{errorNumber}
 use Rattle.terms.specs.declared.digits.Digits.{Digits}
 use Rattle.terms.specs.declared.error_code.ErrorCode.{ErrorCode}
 use Rattle.terms.proofs.Tests.{is-true, made-same}

@@ -1,7 +1,7 @@
 -- Short lists, element by element.
 use mathlib.Core.Path.{_≡_, refl, sym, ap, _∙_}
 use mathlib.Core.List.{List, [], _∷_}
-use Prim.Native.Nat.{ℕ, _+_, _-_, _/_, _%_, _≤_}
+use Prim.Native.Nat.{ℕ, _+_, _-_, _/_, _%_}
 use native.Mathlib.Omega.{arith}
 use lib.ListN.{length, getD, take, drop}
 use Rattle.std.proofs.shelf.Lists.{take-all}
@@ -11,7 +11,7 @@ single [] h = absurd (omega arith)
 single (x ∷ []) h = refl
 single (x ∷ y ∷ xs) h = absurd (omega arith)
 
-pub double : (xs : List ℕ) → length xs ≡ 2 → xs ≡ getD xs 0 0 ∷ getD xs 1 0 ∷ []
+double : (xs : List ℕ) → length xs ≡ 2 → xs ≡ getD xs 0 0 ∷ getD xs 1 0 ∷ []
 double [] h = absurd (omega arith)
 double (x ∷ []) h = absurd (omega arith)
 double (x ∷ y ∷ []) h = refl

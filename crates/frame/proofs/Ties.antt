@@ -17,8 +17,8 @@ use Rattle.terms.specs.Refusals.{refusalNumber}
 use Rattle.terms.specs.declared.refusal.Refusal.{Refusal}
 use Rattle.terms.specs.declared.refusal.Refusal.the-variants as R
 use Rattle.frame.specs.Operations.{argument, codeIn}
-use Rattle.frame.specs.Format.{carried, codeByte, contentFault, fault, frameFault, frameLength, versionFault, wire}
-use Rattle.frame.specs.Promises.{Reads, Writes, writeFault}
+use Rattle.frame.specs.Format.{carried, contentFault, fault, frameFault, frameLength, versionFault, wire}
+use Rattle.frame.specs.Promises.{Reads, Writes}
 use Rattle.frame.specs.Steps.{Contains}
 use Rattle.frame.specs.Laws.{Reads-only-as, Written-only-as}
 use Rattle.frame.specs.declared.operation.Frame.{Frame}

@@ -2,9 +2,9 @@
 use mathlib.Core.Path.{_≡_, refl, sym, ap, subst, _∙_}
 use mathlib.Core.Bool.{Bool, true, false, cond, _&&_}
 use mathlib.Core.List.{List, [], _∷_}
-use Prim.Native.Nat.{ℕ, _+_, _-_, _*_, _%_, _≤_, _<_}
+use Prim.Native.Nat.{ℕ, _+_, _-_, _*_, _≤_}
 use native.Mathlib.Omega.{arith}
-use lib.Dec.{leb, eqb}
+use lib.Dec.{eqb}
 use lib.ListN.{length, getD, take, drop, length-drop}
 use Rattle.std.proofs.shelf.Lists.{take-rest}
 use Rattle.std.proofs.shelf.Tests.{le-leb, eq-eqb, eqb-false, and-from, cond-true, cond-false}
@@ -14,7 +14,7 @@ use Rattle.terms.specs.Refusals.{refusalNumber}
 use Rattle.terms.specs.declared.refusal.Refusal.{Refusal}
 use Rattle.terms.specs.declared.refusal.Refusal.the-variants.{PointTwice}
 use Rattle.terms.specs.Each.{all}
-use Rattle.terms.specs.Decimals.{isDigit, areDigits}
+use Rattle.terms.specs.Decimals.{areDigits}
 use Rattle.frame.specs.Items.{itemBytes, spelt, isItem, someTwice}
 use Rattle.frame.specs.Format.{addressLength, addressFault, itemsLength, itemsFault}
 use Rattle.frame.specs.Steps.{Checks}
@@ -25,7 +25,7 @@ right-left : (x y : Bool) → x ≡ true → (x && y) ≡ false → y ≡ false
 right-left true y e f = f
 right-left false y e f = absurd (let z : _≡_ {A = ℕ} 0 1 = cc in omega arith)
 
-pub address-length : (bs : List ℕ) → 2 ≤ length bs → length bs ≤ 16 → getD bs 0 0 + 1 ≡ length bs → addressLength bs ≡ true
+address-length : (bs : List ℕ) → 2 ≤ length bs → length bs ≤ 16 → getD bs 0 0 + 1 ≡ length bs → addressLength bs ≡ true
 address-length bs low high n = and-from _ _ (and-from _ _ (le-leb 2 _ low) (le-leb _ 16 high)) (eq-eqb _ _ n)
 
 pub address-value : (bs : List ℕ) → 2 ≤ length bs → length bs ≤ 16 → getD bs 0 0 + 1 ≡ length bs → areDigits (take (length bs - 1) (drop 1 bs)) ≡ false → addressFault bs ≡ 8

@@ -1,6 +1,6 @@
 -- The format of a frame: the bytes of each, and the first fault of a list of bytes, as the number of its refusal; 0 is no fault.
 use mathlib.Core.Bool.{Bool, cond, _&&_}
-use mathlib.Core.List.{List, [], _∷_}
+use mathlib.Core.List.{List, _∷_}
 use Prim.Native.Nat.{ℕ, _+_, _*_, _/_, _%_}
 use lib.Dec.{leb, eqb}
 use lib.ListN.{length, getD, drop}

@@ -1,6 +1,5 @@
 //! The reader.
 ghost use mathlib.Core.Path.{_≡_};
-ghost use Prim.Native.Nat.{ℕ};
 ghost use Rattle.std.specs.Vec.{made};
 ghost use Rattle.frame.specs.Format.{frameFault, frameLength};
 ghost use Rattle.frame.specs.Laws.{Written-only-as};

@@ -1,6 +1,5 @@
 //! Reading a frame, and holding it against what is written again.
 ghost use mathlib.Core.Path.{_≡_};
-ghost use Prim.Native.Nat.{ℕ};
 ghost use Rattle.std.specs.Orderings.{Decides};
 ghost use Rattle.frame.specs.Format.{frameFault, wire};
 ghost use Rattle.frame_check.specs.Findings.{Finds};

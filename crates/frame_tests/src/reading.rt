@@ -28,104 +28,27 @@ fn length_field() -> Result<(), Fail> {
 /// Seventeen items make the longest frame, 40 bytes; one byte more is refused by 2.
 #[test]
 fn seventeen_items() -> Result<(), Fail> {
-    let full = [
-        0,
-        38,
-        1,
-        7,
-        23,
-        6,
-        1,
-        0,
-        2,
-        1,
-        3,
-        2,
-        4,
-        0,
-        5,
-        1,
-        6,
-        2,
-        7,
-        0,
-        8,
-        1,
-        9,
-        2,
-        10,
-        0,
-        12,
-        1,
-        13,
-        2,
-        14,
-        0,
-        15,
-        1,
-        16,
-        2,
-        17,
-        0,
-        18,
-        1,
-    ];
-    let longer = [
-        0,
-        39,
-        1,
-        7,
-        23,
-        6,
-        1,
-        0,
-        2,
-        1,
-        3,
-        2,
-        4,
-        0,
-        5,
-        1,
-        6,
-        2,
-        7,
-        0,
-        8,
-        1,
-        9,
-        2,
-        10,
-        0,
-        12,
-        1,
-        13,
-        2,
-        14,
-        0,
-        15,
-        1,
-        16,
-        2,
-        17,
-        0,
-        18,
-        1,
-        0,
-    ];
+    let full = b"\x00\x26\x01\x07\x17\x06\
+        \x01\x00\x02\x01\x03\x02\x04\x00\x05\x01\x06\x02\
+        \x07\x00\x08\x01\x09\x02\x0A\x00\x0C\x01\x0D\x02\
+        \x0E\x00\x0F\x01\x10\x02\x11\x00\x12\x01";
+    let longer = b"\x00\x27\x01\x07\x17\x06\
+        \x01\x00\x02\x01\x03\x02\x04\x00\x05\x01\x06\x02\
+        \x07\x00\x08\x01\x09\x02\x0A\x00\x0C\x01\x0D\x02\
+        \x0E\x00\x0F\x01\x10\x02\x11\x00\x12\x01\x00";
     check_eq(full.len(), 40)?;
-    check_eq(answer(&full), 0)?;
+    check_eq(answer(full), 0)?;
     check_eq(longer.len(), 41)?;
-    check_eq(answer(&longer), 2)
+    check_eq(answer(longer), 2)
 }
 
 /// An address has one to fifteen digits.
 #[test]
 fn addresses() -> Result<(), Fail> {
-    let fifteen = *b"\x00\x14\x01\x07\x14\x06\x0F123456789012345";
-    let sixteen = *b"\x00\x15\x01\x07\x14\x06\x101234567890123456";
-    check_eq(answer(&fifteen), 0)?;
-    check_eq(answer(&sixteen), 7)?;
+    let fifteen = b"\x00\x14\x01\x07\x14\x06\x0F123456789012345";
+    let sixteen = b"\x00\x15\x01\x07\x14\x06\x101234567890123456";
+    check_eq(answer(fifteen), 0)?;
+    check_eq(answer(sixteen), 7)?;
     check_eq(answer(&[0, 5, 1, 7, 20, 6, 0]), 7)?;
     check_eq(answer(&[0, 6, 1, 7, 20, 6, 1, 48]), 0)?;
     check_eq(answer(&[0, 6, 1, 7, 20, 6, 1, 47]), 8)?;

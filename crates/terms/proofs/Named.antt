@@ -1,17 +1,15 @@
 -- Digits are named by their ASCII bytes: equal bytes, equal digits.
-use mathlib.Core.Path.{_≡_, refl, subst}
-use mathlib.Core.Bool.{Bool, true}
-use mathlib.Core.List.{List}
-use Prim.Native.Nat.{ℕ, _≤_}
+use mathlib.Core.Path.{_≡_}
+use mathlib.Core.Bool.{true}
+use Prim.Native.Nat.{_≤_}
 use native.Mathlib.Omega.{arith}
-use lib.Dec.{T, eqb}
-use lib.ListN.{length, take}
-use mathlib.Core.Path.{ap, sym, _∙_}
+use lib.Dec.{eqb}
+use lib.ListN.{length}
 use Rattle.std.proofs.shelf.Lists.{length-take-le}
-use Rattle.std.proofs.shelf.Tests.{and-parts, and-from, le-leb, eqb-true}
+use Rattle.std.proofs.shelf.Tests.{and-parts, eqb-true}
 use Rattle.terms.specs.Each.{all}
 use Rattle.terms.specs.Padding.{padded}
-use Rattle.terms.specs.Decimals.{isDigit, areDigits, keptDigits}
+use Rattle.terms.specs.Decimals.{isDigit, keptDigits}
 use Rattle.terms.specs.Digits.{ascii}
 use Rattle.terms.specs.declared.digits.Digits.{Digits}
 use Rattle.terms.proofs.Tests.{is-true, made-same}
@@ -25,11 +23,8 @@ digits-same d e h =
     let s = padded-same (λ b. eqb b 0) 0 (λ x t. eqb-true x 0 t) 15 (d .count) (e .count) (d .bytes) (e .bytes) (parts d .0) (parts e .0) h in
     made-same keptDigits (λ c bs p. record { count = c; bytes = bs; kept = p }) _ _ (s .0) _ _ (s .1) (d .kept) (e .kept)
 
-pub digits-length : (d : Digits) → length (ascii d) ≡ d .count
+digits-length : (d : Digits) → length (ascii d) ≡ d .count
 digits-length d = let p = padded-parts (λ b. eqb b 0) 15 (d .count) (d .bytes) (parts d .0) in length-take-le (d .count) (d .bytes) (omega arith)
 
 pub digits-few : (d : Digits) → length (ascii d) ≤ 15
 digits-few d = let p = padded-parts (λ b. eqb b 0) 15 (d .count) (d .bytes) (parts d .0) in omega (arith, digits-length d)
-
-pub digits-decimal : (d : Digits) → all isDigit (ascii d) ≡ true
-digits-decimal d = parts d .1

@@ -1,11 +1,10 @@
--- Numbers of points and of error codes: each is one that exists, and it names its point.
+-- Numbers of points and of error codes: each names its point or code, and a point's is one that exists.
 use mathlib.Core.Path.{_≡_, refl, sym, ap, _∙_}
-use mathlib.Core.Bool.{Bool, true}
+use mathlib.Core.Bool.{true}
 use mathlib.Core.List.{List, [], _∷_}
-use Prim.Native.Nat.{ℕ}
 use lib.ListN.{getD}
 use Rattle.terms.specs.Points.{pointNumber, isPoint}
-use Rattle.terms.specs.ErrorCodes.{errorNumber, isErrorCode}
+use Rattle.terms.specs.ErrorCodes.{errorNumber}
 use Rattle.terms.specs.declared.point.Point.{Point}
 use Rattle.terms.specs.declared.point.Point.the-variants as P
 use Rattle.terms.specs.declared.error_code.ErrorCode.{ErrorCode}
@@ -58,16 +57,6 @@ found P.TAbandon = refl
 
 pub point-same : (p q : Point) → pointNumber p ≡ pointNumber q → p ≡ q
 point-same p q e = sym (found p) ∙ ap (λ n. getD byNumber n P.OrigAttemptAuthorized) e ∙ found q
-
-pub error-exists : (e : ErrorCode) → isErrorCode (errorNumber e) ≡ true
-error-exists E.MissingCustomerRecord = refl
-error-exists E.MissingParameter = refl
-error-exists E.ParameterOutOfRange = refl
-error-exists E.SystemFailure = refl
-error-exists E.TaskRefused = refl
-error-exists E.UnexpectedComponentSequence = refl
-error-exists E.UnexpectedDataValue = refl
-error-exists E.UnexpectedParameter = refl
 
 -- the error codes at their numbers; the other places are never looked at
 abbrev errorsByNumber : List ErrorCode

@@ -1,8 +1,8 @@
 -- Padded arrays: what one holds, how one is filled, and that its meant elements name it.
 use mathlib.Core.Path.{_≡_, refl, sym, ap, _∙_}
-use mathlib.Core.Bool.{Bool, true, false, _&&_}
+use mathlib.Core.Bool.{Bool, true}
 use mathlib.Core.List.{List, [], _∷_, _++_}
-use Prim.Native.Nat.{ℕ, zero, suc, _+_, _-_, _≤_, _<_}
+use Prim.Native.Nat.{ℕ, zero, suc, _+_, _-_, _≤_}
 use native.Mathlib.Omega.{arith}
 use lib.Dec.{leb, eqb}
 use lib.ListN.{length, take, drop, length-drop, take-append-drop}
@@ -24,7 +24,7 @@ module _ {X : Type 0} (blank : X → Bool) where
       let q = and-parts (leb count size) _ (p .1) in
       (eqb-true _ _ (p .0), leb-true _ _ (q .0), q .1)
 
-  pub padded-from : (size count : ℕ) (xs : List X) → length xs ≡ size → count ≤ size → all blank (drop count xs) ≡ true → padded blank size count xs ≡ true
+  padded-from : (size count : ℕ) (xs : List X) → length xs ≡ size → count ≤ size → all blank (drop count xs) ≡ true → padded blank size count xs ≡ true
   padded-from size count xs l c e = and-from _ _ (eq-eqb _ _ l) (and-from _ _ (le-leb _ _ c) e)
 
   -- a list copied to the front of a blank array

@@ -3,7 +3,7 @@ use mathlib.Core.List.{List}
 use Prim.Native.Nat.{ℕ}
 use lib.Chars.{codes}
 use Rattle.std.specs.declared.option.Option.{Option}
-use Rattle.std.specs.declared.option.Option.the-variants.{Some, None}
+use Rattle.std.specs.declared.option.Option.the-variants.{Some}
 use Rattle.terms.specs.declared.error_code.ErrorCode.{ErrorCode}
 use Rattle.terms.specs.declared.error_code.ErrorCode.the-variants.{MissingParameter, ParameterOutOfRange, SystemFailure, TaskRefused, UnexpectedDataValue}
 use Rattle.terms.specs.declared.refusal.Refusal.{Refusal}

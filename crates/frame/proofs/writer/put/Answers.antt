@@ -2,7 +2,7 @@ use mathlib.Core.Path.{_≡_, sym, ap, _∙_}
 use mathlib.Core.List.{_∷_, _++_}
 use Prim.Native.Nat.{_+_, _/_, _%_}
 use native.Mathlib.Omega.{arith}
-use lib.ListN.{length, drop}
+use lib.ListN.{drop}
 use Rattle.frame.specs.Operations.{argument, codeIn, codeNumber}
 use Rattle.frame.specs.Format.{carried, codeByte}
 use Rattle.frame.proofs.Put.{behind-head}

@@ -1,7 +1,7 @@
 use mathlib.Core.Path.{_≡_}
 use mathlib.Core.List.{_++_}
 use Prim.Native.Nat.{_*_}
-use lib.ListN.{length, take, drop}
+use lib.ListN.{take, drop}
 use Rattle.hex.specs.Text.{bytesOf}
 use Rattle.hex.proofs.decoder.put_bytes.Given as given
 

@@ -1,5 +1,4 @@
-use mathlib.Core.Path.{_≡_, refl, sym, ap, _∙_}
-use native.Mathlib.Omega.{arith}
+use mathlib.Core.Path.{refl, sym, ap, _∙_}
 use lib.Dec.{eqb}
 use Rattle.std.proofs.shelf.Tests.{and-from, le-leb}
 use Rattle.terms.specs.Each.{all}
