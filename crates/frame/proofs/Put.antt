@@ -8,6 +8,7 @@ use borrow.Rule.Slice.PartMut.{putMid}
 use Rattle.std.proofs.shelf.Lists.{take-append-drop, drop-append-le, drop-drop, drop-at, length-drop, length-push, length-take-le, set-at, take-all, take-more}
 use Rattle.terms.specs.Points.{pointNumber}
 use Rattle.terms.proofs.Twos.{drop-two}
+use Rattle.frame.specs.Limits.{longestArgument, longestFrame}
 use Rattle.frame.specs.Items.{modeNumber, itemBytes}
 use Rattle.frame.specs.declared.item.Item.{Item}
 use Rattle.frame.proofs.Spelling.{blank, itemBytes-push, length-itemBytes}
@@ -40,13 +41,13 @@ put-all xs was o i n e =
     e ∙ (λ j. itemBytes (take (n j) xs) ++ drop (2 * n j) was) ∙ ap (λ l. itemBytes l ++ drop (2 * length xs) was) (take-all (length xs) xs (omega arith))
 
 -- what the argument's part leaves, and what stands behind that part
-rest : (o : List ℕ) (r : ℕ) → 34 ≤ length o → r ≤ 34 → drop r (take 34 o) ++ drop 34 o ≡ drop r o
-rest o r l h = sym (drop-append-le r (take 34 o) (drop 34 o) (rw length-take-le h)) ∙ ap (drop r) (take-append-drop 34 o)
+rest : (o : List ℕ) (r : ℕ) → longestArgument ≤ length o → r ≤ longestArgument → drop r (take longestArgument o) ++ drop longestArgument o ≡ drop r o
+rest o r l h = sym (drop-append-le r (take longestArgument o) (drop longestArgument o) (rw length-take-le h)) ∙ ap (drop r) (take-append-drop longestArgument o)
 
 -- what stands behind the head, once the argument is written
-pub behind-head : (out ys arg : List ℕ) (r : ℕ) → 40 ≤ length out → r ≤ 34 → ys ≡ arg ++ drop r (take 34 (drop 6 out)) → drop 6 (putMid 6 34 out ys) ≡ arg ++ drop (6 + r) out
+pub behind-head : (out ys arg : List ℕ) (r : ℕ) → longestFrame ≤ length out → r ≤ longestArgument → ys ≡ arg ++ drop r (take longestArgument (drop 6 out)) → drop 6 (putMid 6 longestArgument out ys) ≡ arg ++ drop (6 + r) out
 behind-head out ys arg r l h y =
     let six : length (take 6 out) ≡ 6 = length-take-le 6 out (omega arith) in
-    let long : 34 ≤ length (drop 6 out) = rw length-drop (omega arith) in
-    drop-at (take 6 out) (ys ++ drop 34 (drop 6 out)) 6 six ∙ ap (λ k. k ++ drop 34 (drop 6 out)) y ∙ append-assoc arg _ _ ∙
+    let long : longestArgument ≤ length (drop 6 out) = rw length-drop (omega arith) in
+    drop-at (take 6 out) (ys ++ drop longestArgument (drop 6 out)) 6 six ∙ ap (λ k. k ++ drop longestArgument (drop 6 out)) y ∙ append-assoc arg _ _ ∙
     ap (λ k. arg ++ k) (rest (drop 6 out) r long h ∙ drop-drop r 6 out)

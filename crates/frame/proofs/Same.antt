@@ -18,6 +18,7 @@ use Rattle.terms.proofs.Tests.{is-true, made-same}
 use Rattle.terms.proofs.Padded.{padded-parts, padded-same}
 use Rattle.terms.proofs.Named.{digits-same, digits-few}
 use Rattle.terms.proofs.Numbered.{point-same, error-same}
+use Rattle.frame.specs.Limits.{longestArgument, mostItems}
 use Rattle.frame.specs.Items.{modeNumber, itemBytes, isBlank}
 use Rattle.frame.specs.Operations.{codeAt, codeIn, argument, itemsIn, addressBytes}
 use Rattle.frame.specs.Format.{codeByte, wire}
@@ -64,8 +65,8 @@ blank-only x e = let p = and-parts _ _ e in item-same x blank (eqb-true _ 1 (p .
 
 items-same : (a b : Items) → itemBytes (itemsIn a) ≡ itemBytes (itemsIn b) → a ≡ b
 items-same a b e =
-    let s = padded-same isBlank blank blank-only 17 (a .count) (b .count) (a .items) (b .items) (is-true _ (a .kept)) (is-true _ (b .kept)) (itemBytes-same _ _ e) in
-    made-same (padded isBlank 17) (λ c xs p. record { count = c; items = xs; kept = p }) _ _ (s .0) _ _ (s .1) (a .kept) (b .kept)
+    let s = padded-same isBlank blank blank-only mostItems (a .count) (b .count) (a .items) (b .items) (is-true _ (a .kept)) (is-true _ (b .kept)) (itemBytes-same _ _ e) in
+    made-same (padded isBlank mostItems) (λ c xs p. record { count = c; items = xs; kept = p }) _ _ (s .0) _ _ (s .1) (a .kept) (b .kept)
 
 address-same : (a b : Digits) → addressBytes a ≡ addressBytes b → a ≡ b
 address-same a b e = digits-same a b (cc)
@@ -177,17 +178,17 @@ wire-same f g e =
     let o = operation-same (f .operation) (g .operation) k a in
     λ j. record { dialogue = d j; invoke = i j; operation = o j }
 
-address-short : (a : Digits) → length (addressBytes a) ≤ 34
+address-short : (a : Digits) → length (addressBytes a) ≤ longestArgument
 address-short a = let l = digits-few a in omega arith
 
-items-short : (a : Items) → length (itemBytes (itemsIn a)) ≤ 34
+items-short : (a : Items) → length (itemBytes (itemsIn a)) ≤ longestArgument
 items-short a =
-    let p = padded-parts isBlank 17 (a .count) (a .items) (is-true _ (a .kept)) in
+    let p = padded-parts isBlank mostItems (a .count) (a .items) (is-true _ (a .kept)) in
     let l = length-take-le (a .count) (a .items) (omega arith) in
     omega (arith, length-itemBytes (itemsIn a))
 
--- no argument is longer than 34 bytes
-pub argument-short : (p : Operation) → length (argument p) ≤ 34
+-- no argument is longer than there is room for
+pub argument-short : (p : Operation) → length (argument p) ≤ longestArgument
 argument-short (O.InitialDpError x) = lit≤ tt
 argument-short (O.EstablishTemporaryConnection x) = address-short x
 argument-short O.DisconnectForwardConnection = lit≤ tt

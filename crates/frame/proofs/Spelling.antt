@@ -15,6 +15,7 @@ use Rattle.terms.specs.Points.{pointNumber}
 use Rattle.terms.specs.declared.point.Point.the-variants.{OrigAttemptAuthorized}
 use Rattle.terms.proofs.Numbered.{point-exists}
 use Rattle.terms.proofs.Twos.{drop-two, take-two}
+use Rattle.frame.specs.Limits.{longestArgument, mostItems}
 use Rattle.frame.specs.Items.{modeNumber, isMode, itemBytes, spelt, isItem}
 use Rattle.frame.specs.Operations.{itemsIn}
 use Rattle.frame.specs.declared.item.Mode.{Mode}
@@ -61,7 +62,7 @@ module _ (bs : List ℕ) (i : ℕ) (l : 2 * i + 1 < length bs) where
     spelt-stop e = sym inv ∙ spelt-here ∙ and-left _ _ e
 
 -- all items are read
-pub all-read : (bs : List ℕ) (xs : List Item) (i : ℕ) (r : Option Items) (P : Type 0) → length xs ≡ 17 → i ≡ length bs / 2 → length bs ≤ 34 → length bs % 2 ≡ 0 → itemBytes (take i xs) ≡ take (2 * i) bs → Cases r (17 < length (take (length bs / 2 - 0) xs)) (λ v. itemsIn v ≡ take (length bs / 2 - 0) xs) → Cases r P (λ v. itemBytes (itemsIn v) ≡ bs)
+pub all-read : (bs : List ℕ) (xs : List Item) (i : ℕ) (r : Option Items) (P : Type 0) → length xs ≡ mostItems → i ≡ length bs / 2 → length bs ≤ longestArgument → length bs % 2 ≡ 0 → itemBytes (take i xs) ≡ take (2 * i) bs → Cases r (mostItems < length (take (length bs / 2 - 0) xs)) (λ v. itemsIn v ≡ take (length bs / 2 - 0) xs) → Cases r P (λ v. itemBytes (itemsIn v) ≡ bs)
 all-read bs xs i None P size n few even e h =
     absurd (let fits : length (take (length bs / 2 - 0) xs) ≡ length bs / 2 - 0 = length-take-le (length bs / 2 - 0) xs (omega arith) in omega arith)
 all-read bs xs i (Some v) P size n few even e h =

@@ -16,6 +16,7 @@ use Rattle.terms.specs.Ranges.{within}
 use Rattle.terms.specs.Refusals.{refusalNumber}
 use Rattle.terms.specs.declared.refusal.Refusal.{Refusal}
 use Rattle.terms.specs.declared.refusal.Refusal.the-variants as R
+use Rattle.frame.specs.Limits.{longestFrame}
 use Rattle.frame.specs.Operations.{argument, codeIn}
 use Rattle.frame.specs.Format.{carried, contentFault, fault, frameFault, frameLength, versionFault, wire}
 use Rattle.frame.specs.Promises.{Reads, Writes}
@@ -36,9 +37,9 @@ first-six (a ∷ b ∷ c ∷ d ∷ e ∷ f ∷ rest) h = refl
 version-right : (v x : ℕ) → cond (eqb v 1) x 3 ≡ 0 → v ≡ 1
 version-right v x e = grind (arith, tells)
 
-frame-length : (bs : List ℕ) → frameLength bs ≡ true → (6 ≤ length bs) × (length bs ≤ 40) × (256 * getD bs 0 0 + getD bs 1 0 + 2 ≡ length bs)
+frame-length : (bs : List ℕ) → frameLength bs ≡ true → (6 ≤ length bs) × (length bs ≤ longestFrame) × (256 * getD bs 0 0 + getD bs 1 0 + 2 ≡ length bs)
 frame-length bs e =
-    let p = and-parts (within 6 40 (length bs)) _ e in
+    let p = and-parts (within 6 longestFrame (length bs)) _ e in
     let q = and-parts (leb 6 (length bs)) _ (p .0) in
     (leb-true _ _ (q .0), leb-true _ _ (q .1), eqb-true _ _ (p .1))
 
@@ -61,7 +62,7 @@ to-reads bs len byte (Ok f) h =
 wire-fault : (f : Frame) → fault (wire f) ≡ frameFault f
 wire-fault f =
     let short = argument-short (f .operation) in
-    cond-true _ _ _ (and-from _ _ (and-from _ _ (le-leb 6 (length (wire f)) (omega arith)) (le-leb (length (wire f)) 40 (omega arith))) (eq-eqb _ _ (omega arith))) ∙ ap (λ k. contentFault (f .dialogue) k (f .invoke) (argument (f .operation))) (named (codeIn (f .operation)))
+    cond-true _ _ _ (and-from _ _ (and-from _ _ (le-leb 6 (length (wire f)) (omega arith)) (le-leb (length (wire f)) longestFrame (omega arith))) (eq-eqb _ _ (omega arith))) ∙ ap (λ k. contentFault (f .dialogue) k (f .invoke) (argument (f .operation))) (named (codeIn (f .operation)))
 
 some-number : (e : Refusal) → 0 < refusalNumber e
 some-number R.Room = omega arith
@@ -88,7 +89,7 @@ wire-reads f z (Err e) h = absurd (let w = wire-fault f in let n = some-number e
 -- a frame that was written reads back as that frame
 pub reads-back : (f : Frame) (out after : List ℕ) (r : Result ℕ Refusal) → Writes f out r after → made r (λ n. Reads-only-as (take n after) f)
 reads-back f out after (Ok n) w =
-    subst (λ bs. Reads-only-as bs f) (sym (written f out after n (w .1) (w .2))) (wire-reads f (room-left (leb 40 (length out)) (frameFault f) (w .0)))
+    subst (λ bs. Reads-only-as bs f) (sym (written f out after n (w .1) (w .2))) (wire-reads f (room-left (leb longestFrame (length out)) (frameFault f) (w .0)))
 reads-back f out after (Err e) w = tt
 
 -- a frame that was read has no fault
@@ -105,7 +106,7 @@ written-as bs f h out after (Ok n) room w =
     let l : n ≡ length bs = w .1 ∙ ap length (h .1) in
     (ap Ok l, ap (λ k. take k after) (sym l) ∙ written f out after n (w .1) (w .2) ∙ h .1)
 written-as bs f h out after (Err e) room w =
-    let free = cond-true (leb 40 (length out)) (frameFault f) 1 (le-leb 40 (length out) room) in
+    let free = cond-true (leb longestFrame (length out)) (frameFault f) 1 (le-leb longestFrame (length out) room) in
     let none = no-fault bs f h in
     let n = some-number e in
     absurd (omega (arith, sym free ∙ w .0))

@@ -15,6 +15,7 @@ use Rattle.terms.specs.declared.refusal.Refusal.{Refusal}
 use Rattle.terms.specs.declared.refusal.Refusal.the-variants.{PointTwice}
 use Rattle.terms.specs.Each.{all}
 use Rattle.terms.specs.Decimals.{areDigits}
+use Rattle.frame.specs.Limits.{longestArgument, mostItems}
 use Rattle.frame.specs.Items.{itemBytes, spelt, isItem, someTwice}
 use Rattle.frame.specs.Format.{addressLength, addressFault, itemsLength, itemsFault}
 use Rattle.frame.specs.Steps.{Checks}
@@ -38,16 +39,16 @@ items-exist [] = refl
 items-exist (x ∷ xs) = and-from _ _ (item-exists x) (items-exist xs)
 
 -- of items that are there and not too many, only a point that comes twice is a fault
-items-twice : (xs ys : List Item) → ys ≡ xs → length ys ≤ 17 → eqb (length ys) 0 ≡ false → itemsFault (itemBytes xs) ≡ cond (someTwice (spelt (itemBytes ys))) (refusalNumber PointTwice) 0
+items-twice : (xs ys : List Item) → ys ≡ xs → length ys ≤ mostItems → eqb (length ys) 0 ≡ false → itemsFault (itemBytes xs) ≡ cond (someTwice (spelt (itemBytes ys))) (refusalNumber PointTwice) 0
 items-twice xs ys e few some =
     let size : length (itemBytes xs) ≡ 2 * length ys = length-itemBytes xs ∙ ap (λ l. 2 * length l) (sym e) in
     let low : 2 ≤ length (itemBytes xs) = omega (arith, eqb-false _ _ some) in
-    let right : itemsLength (itemBytes xs) ≡ true = and-from _ _ (and-from _ _ (le-leb 2 _ low) (le-leb _ 34 (omega arith))) (eq-eqb _ _ (omega arith)) in
+    let right : itemsLength (itemBytes xs) ≡ true = and-from _ _ (and-from _ _ (le-leb 2 _ low) (le-leb _ longestArgument (omega arith))) (eq-eqb _ _ (omega arith)) in
     cond-true _ _ _ right ∙ cond-true _ _ _ (items-exist xs) ∙ sym (ap (λ l. cond (someTwice (spelt (itemBytes l))) (refusalNumber PointTwice) 0) e)
 
 by-twice : (twice : Bool) (f : ℕ) (r : Result (Unit {0}) Refusal) → f ≡ cond twice (refusalNumber PointTwice) 0 → r ≡ cond twice (Err PointTwice) (Ok tt) → Checks f r
 by-twice true f r e h = subst (Checks f) (sym h) e
 by-twice false f r e h = subst (Checks f) (sym h) e
 
-pub items-checked : (xs ys : List Item) (r : Result (Unit {0}) Refusal) → ys ≡ xs → length ys ≤ 17 → eqb (length ys) 0 ≡ false → r ≡ cond (someTwice (spelt (itemBytes ys))) (Err PointTwice) (Ok tt) → Checks (itemsFault (itemBytes xs)) r
+pub items-checked : (xs ys : List Item) (r : Result (Unit {0}) Refusal) → ys ≡ xs → length ys ≤ mostItems → eqb (length ys) 0 ≡ false → r ≡ cond (someTwice (spelt (itemBytes ys))) (Err PointTwice) (Ok tt) → Checks (itemsFault (itemBytes xs)) r
 items-checked xs ys r e few some h = by-twice (someTwice (spelt (itemBytes ys))) (itemsFault (itemBytes xs)) r (items-twice xs ys e few some) h

@@ -24,6 +24,11 @@ fn answer(dialogue: u8, invoke: u8, operation: Operation) -> usize {
     }
 }
 
+/// Checks that answer in dialogue 7 under invoke number 6.
+fn writes(operation: Operation, expected: usize) -> Result<(), Fail> {
+    check_eq(answer(7, 6, operation), expected)
+}
+
 /// Thirty-nine bytes are too few for any frame; forty are enough, and no byte behind the frame is touched.
 #[test]
 fn room() -> Result<(), Fail> {
@@ -67,11 +72,11 @@ fn arguments() -> Result<(), Fail> {
     check_eq(connect(b""), Some(107))?;
     check_eq(connect(b"123456789012345"), Some(22))?;
     check_eq(connect(b"1234567890123456"), None)?;
-    check_eq(answer(7, 6, Operation::ReleaseCall(0)), 108)?;
-    check_eq(answer(7, 6, Operation::ReleaseCall(128)), 108)?;
-    check_eq(answer(7, 6, Operation::ResetTimer(0)), 108)?;
-    check_eq(answer(7, 6, Operation::ResetTimer(6000)), 8)?;
-    check_eq(answer(7, 6, Operation::ResetTimer(6001)), 108)?;
+    writes(Operation::ReleaseCall(0), 108)?;
+    writes(Operation::ReleaseCall(128), 108)?;
+    writes(Operation::ResetTimer(0), 108)?;
+    writes(Operation::ResetTimer(6000), 8)?;
+    writes(Operation::ResetTimer(6001), 108)?;
     check_eq(
         answer(7, 6, Operation::InitialDpError(ErrorCode::TaskRefused)),
         7,
