@@ -9,6 +9,7 @@ use frame::write;
 use std::test::*;
 use terms::point::Point;
 use terms::refusal::Refusal;
+use terms::refusal::RefusalDebug;
 
 /// Asks the exchange to report when the called party answers, in dialogue 7 under invoke number 1.
 fn ask_for_answer(out: &mut [u8]) -> Result<usize, Refusal> {
@@ -30,7 +31,9 @@ fn ask_for_answer(out: &mut [u8]) -> Result<usize, Refusal> {
 #[test]
 fn readme() -> Result<(), Fail> {
     let mut out = [0; 40];
-    check(matches!(ask_for_answer(&mut out), Ok(8)))?;
+    let n = ask_for_answer(&mut out)?;
+    check_eq(n, 8)?;
     check(&out[0..8] == [0, 6, 1, 7, 23, 1, 7, 1].as_slice())?;
-    check(matches!(read(&out[0..8]), Ok(frame) if frame.dialogue == 7))
+    let frame = read(&out[0..8])?;
+    check_eq(frame.dialogue, 7)
 }

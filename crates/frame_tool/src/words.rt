@@ -14,19 +14,14 @@ fn mode_word(mode: Mode) -> &'static str {
     }
 }
 
-fn print_item(rt: &LibcRuntime, item: Item) -> io::Result<()> {
-    let point = item.point.number();
-    let name = item.point.name();
-    let mode = mode_word(item.mode);
-    print!(rt, " {point} {name} {mode}")
-}
-
+/// Prints the items, with a comma between each two.
 fn print_items(rt: &LibcRuntime, items: &[Item]) -> io::Result<()> {
     for (i, item) in items.iter().enumerate() {
-        if i > 0 {
-            print!(rt, ",")?;
-        }
-        print_item(rt, *item)?;
+        let comma = if i > 0 { "," } else { "" };
+        let point = item.point.number();
+        let name = item.point.name();
+        let mode = mode_word(item.mode);
+        print!(rt, "{comma} {point} {name} {mode}")?;
     }
     Ok(())
 }
@@ -38,8 +33,9 @@ fn print_argument(rt: &LibcRuntime, operation: &Operation) -> io::Result<()> {
             let name = error.name();
             print!(rt, ": {number} {name}")
         }
-        Operation::EstablishTemporaryConnection(address) => print!(rt, " to {address}"),
-        Operation::Connect(address) => print!(rt, " to {address}"),
+        Operation::EstablishTemporaryConnection(address) | Operation::Connect(address) => {
+            print!(rt, " to {address}")
+        }
         Operation::ReleaseCall(cause) => print!(rt, ", cause {cause}"),
         Operation::RequestReportBcsmEvent(items) => {
             print!(rt, ":")?;
