@@ -1,4 +1,6 @@
 //! Clocks: the interface of what times the numbers of the exchange, and two clocks that keep to it.
+#![tactic(auto)]
+
 ghost use Rattle.std.specs.Prelude.{◌≡◌};
 ghost use Rattle.clock.specs.Meaning.{ClockMeaning, ClockRanges, all_stopped, is_time, passing, setting, stopping, ticks_left};
 

@@ -1,4 +1,6 @@
 //! Plays one script of calls over every host and clock, and says whether all agree.
+#![tactic(auto)]
+
 mod play;
 mod step;
 mod words;

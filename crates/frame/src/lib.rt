@@ -3,6 +3,8 @@
 //!
 //! `read` takes any bytes and gives the frame that they are, or their first fault. `write` takes any frame and puts its
 //! bytes at the front of a buffer, or refuses it. A frame has one reading and one spelling.
+#![tactic(auto)]
+
 mod arguments;
 mod check;
 pub mod code;

@@ -1,4 +1,6 @@
 //! Reading a frame, and holding it against what is written again.
+#![tactic(auto)]
+
 ghost use Rattle.std.specs.Prelude.{◌≡◌, Decides};
 ghost use Rattle.frame.specs.Format.{frame_fault, wire};
 ghost use Rattle.frame_check.specs.Findings.{Finds};

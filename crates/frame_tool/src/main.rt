@@ -1,8 +1,10 @@
 //! Reads frames in capital hexadecimal, a line each, and says in words what each is.
+#![tactic(auto)]
+
 mod words;
 
 use frame_check::examine;
-use hex::decode;
+use hexadecimal::decode;
 use std::io::{BufRead, BufReader};
 use std::{env, io};
 use terms::refusal::Refusal;

@@ -1,4 +1,6 @@
 //! Hosts: the interface of what holds calls while a control point is asked what to do with them, and a host that keeps to it.
+#![tactic(auto)]
+
 ghost use Rattle.std.specs.Prelude.{◌≡◌};
 ghost use Rattle.host.specs.Meaning.{HostMeaning, HostRanges, can_join_circuit, can_join_port, cleared, holding, joining_circuit, joining_port, letting_go, mode_of};
 

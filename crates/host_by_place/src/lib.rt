@@ -1,4 +1,6 @@
 //! A host that keeps for each port and each circuit the call on it.
+#![tactic(auto)]
+
 mod places;
 mod table;
 

@@ -4,5 +4,5 @@ use Rattle.frame.proofs.check.check_items.Goals as goal
 
 pub returns : goal.returns
 returns c =
-    let slice = c.as-slice-slice in
-    items_checked _ slice.result.now _ slice.ensures.items slice.ensures.few (sym c.if-is-empty.ensures) c.check-distinct.ensures
+    let slice = c.as_slice-slice in
+    items_checked _ slice.result.now _ slice.ensures.items slice.ensures.few (sym c.if-is_empty.ensures) c.check_distinct.ensures

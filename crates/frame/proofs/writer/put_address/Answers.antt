@@ -4,6 +4,6 @@ use Rattle.frame.proofs.writer.put_address.Goals as goal
 
 pub returns : goal.returns
 returns c = record {
-  len = (omega (arith, ap length c.as-ascii-digits.ensures.bytes), omega arith);
-  after = count_put c.args.out.now c.copy-from-slice.new.self c.as-ascii-digits.result.now _ (omega arith) c.copy-from-slice.ensures.after c.as-ascii-digits.ensures.bytes;
+  len = (omega (arith, ap length c.as_ascii-digits.ensures.bytes), omega arith);
+  after = count_put c.args.out.now c.copy_from_slice.new.self c.as_ascii-digits.result.now _ (omega arith) c.copy_from_slice.ensures.after c.as_ascii-digits.ensures.bytes;
 }

@@ -6,7 +6,7 @@ use Rattle.clock.proofs.countdown.methods.take_one_tick.Goals as goal
 
 pub loop-i-preserved : goal.loop-i-preserved
 loop-i-preserved c =
-    replaced_more one_tick_less (λ t. t) _ c.loop-i.times c.loop-i.i c.loop-i.invariant None _ (omega arith) c.one-tick-less.ensures
+    replaced_more one_tick_less (λ t. t) _ c.loop-i.times c.loop-i.i c.loop-i.invariant None _ (omega arith) c.one_tick_less.ensures
 
 pub returns : goal.returns
 returns c =

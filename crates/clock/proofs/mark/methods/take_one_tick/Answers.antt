@@ -8,7 +8,7 @@ use Rattle.clock.proofs.mark.methods.take_one_tick.Goals as goal
 pub loop-i-preserved : goal.loop-i-preserved
 loop-i-preserved c =
     replaced_more (λ m. one_tick_less (until_mark c.args.count m)) (until_mark (count_after c.args.count 1)) _ c.loop-i.marks c.loop-i.i c.loop-i.invariant None _
-    (omega arith) c.mark-after-tick.ensures
+    (omega arith) c.mark_after_tick.ensures
 
 pub returns : goal.returns
 returns c =

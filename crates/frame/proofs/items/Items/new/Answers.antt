@@ -5,8 +5,8 @@ use Rattle.frame.specs.Limits.{most_items}
 use Rattle.frame.specs.Items.{is_blank}
 use Rattle.frame.proofs.items.Items.new.Goals as goal
 
-pub invariant-of-result : goal.invariant-of-result
-invariant-of-result c = (told _ (padded_copy is_blank most_items _ _ _ c.copy-from-slice.ensures.after c.if-n-gt-MOST-ITEMS.false refl refl), tt)
+pub invariant_of-result : goal.invariant_of-result
+invariant_of-result c = record { kept = told _ (padded_copy is_blank most_items _ _ _ c.copy_from_slice.ensures.after c.if-n-gt-MOST_ITEMS.false refl refl) }
 
 pub returns : goal.returns
-returns c = copied _ _ _ c.copy-from-slice.ensures.after
+returns c = copied _ _ _ c.copy_from_slice.ensures.after

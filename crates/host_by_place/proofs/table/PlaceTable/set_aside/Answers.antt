@@ -3,18 +3,18 @@ use Rattle.std.proofs.lemmas.List.{length-set}
 use Rattle.host_by_place.proofs.Standing.{alike, aside_modes, aside_apart}
 use Rattle.host_by_place.proofs.table.PlaceTable.set_aside.Goals as goal
 
-pub invariant-of-self : goal.invariant-of-self
-invariant-of-self c =
+pub invariant_of-self : goal.invariant_of-self
+invariant_of-self c =
     let x = c.args.self.now in
     let h = c.put.ensures in (
       (ap length h ∙ length-set x.held c.args.call c.args.held ∙ x.whole.0, x.whole.1),
-      (aside_apart x c.args.call c.args.held _ _ _ c.give-back.ensures.calls c.give-back-2.ensures.calls h, tt),
+      (aside_apart x c.args.call c.args.held _ _ _ c.give_back.ensures.calls c.give_back-2.ensures.calls h, tt),
     )
 
 pub returns : goal.returns
 returns c =
     let x = c.args.self.now in
-    let p = c.give-back.ensures in
-    let q = c.give-back-2.ensures in
+    let p = c.give_back.ensures in
+    let q = c.give_back-2.ensures in
     let e = aside_modes x c.args.call c.args.held _ _ _ p.calls q.calls c.put.ensures in
     alike e refl p.total q.total

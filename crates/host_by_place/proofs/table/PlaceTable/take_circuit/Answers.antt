@@ -7,25 +7,25 @@ use Rattle.host_by_place.proofs.Standing.{alike, can_circuit, held_below, circui
 use Rattle.host_by_place.proofs.table.PlaceTable.take_circuit.Goals as goal
 
 pub take-requires : goal.take-requires
-take-requires c = held_below c.args.self.now c.args.call c.if-not-is-held.ensures
+take-requires c = held_below c.args.self.now c.args.call c.if-not-is_held.ensures
 
 pub returns-then-not-take : goal.returns-then-not-take
 returns-then-not-take c =
     let x = c.args.self.now in
     let t = c.if-not-take.ensures in
-    record { said = can_circuit x c.args.call c.if-not-is-held.ensures t.said; after = alike {ns = (by_place x).modes} (λ i. listing call_count (mode_among x.ports.calls (t.calls i) x.held)) refl refl t.total }
+    record { said = can_circuit x c.args.call c.if-not-is_held.ensures t.said; after = alike {ns = (by_place x).modes} (λ i. listing call_count (mode_among x.ports.calls (t.calls i) x.held)) refl refl t.total }
 
-pub invariant-of-self-2 : goal.invariant-of-self-2
-invariant-of-self-2 c =
+pub invariant_of-self-2 : goal.invariant_of-self-2
+invariant_of-self-2 c =
     let x = c.args.self.now in
     let t = c.if-not-take.ensures in (
       (ap length c.put.ensures ∙ length-set x.held c.args.call _ ∙ x.whole.0, x.whole.1),
-      (circuit_apart x c.args.call c.if-not-is-held.ensures _ c.put.ensures _ t.said t.calls, tt),
+      (circuit_apart x c.args.call c.if-not-is_held.ensures _ c.put.ensures _ t.said t.calls, tt),
     )
 
 pub returns : goal.returns
 returns c =
     let x = c.args.self.now in
     let t = c.if-not-take.ensures in
-    let held = c.if-not-is-held.ensures in
+    let held = c.if-not-is_held.ensures in
     record { said = can_circuit x c.args.call held t.said; after = alike (circuit_modes x c.args.call held _ c.put.ensures _ t.said t.calls) refl refl t.total }

@@ -7,25 +7,25 @@ use Rattle.host_by_place.proofs.Standing.{alike, can_port, held_below, port_mode
 use Rattle.host_by_place.proofs.table.PlaceTable.take_port.Goals as goal
 
 pub take-requires : goal.take-requires
-take-requires c = held_below c.args.self.now c.args.call c.if-not-is-held.ensures
+take-requires c = held_below c.args.self.now c.args.call c.if-not-is_held.ensures
 
 pub returns-then-not-take : goal.returns-then-not-take
 returns-then-not-take c =
     let x = c.args.self.now in
     let t = c.if-not-take.ensures in
-    record { said = can_port x c.args.call c.if-not-is-held.ensures t.said; after = alike {ns = (by_place x).modes} (λ i. listing call_count (mode_among (t.calls i) x.circuits.calls x.held)) refl t.total refl }
+    record { said = can_port x c.args.call c.if-not-is_held.ensures t.said; after = alike {ns = (by_place x).modes} (λ i. listing call_count (mode_among (t.calls i) x.circuits.calls x.held)) refl t.total refl }
 
-pub invariant-of-self-2 : goal.invariant-of-self-2
-invariant-of-self-2 c =
+pub invariant_of-self-2 : goal.invariant_of-self-2
+invariant_of-self-2 c =
     let x = c.args.self.now in
     let t = c.if-not-take.ensures in (
       (ap length c.put.ensures ∙ length-set x.held c.args.call _ ∙ x.whole.0, x.whole.1),
-      (port_apart x c.args.call c.if-not-is-held.ensures _ c.put.ensures _ t.said t.calls, tt),
+      (port_apart x c.args.call c.if-not-is_held.ensures _ c.put.ensures _ t.said t.calls, tt),
     )
 
 pub returns : goal.returns
 returns c =
     let x = c.args.self.now in
     let t = c.if-not-take.ensures in
-    let held = c.if-not-is-held.ensures in
+    let held = c.if-not-is_held.ensures in
     record { said = can_port x c.args.call held t.said; after = alike (port_modes x c.args.call held _ c.put.ensures _ t.said t.calls) refl t.total refl }

@@ -9,14 +9,14 @@ read count [] n = refl
 read count (m ∷ ms) zero = refl
 read count (m ∷ ms) (suc n) = read count ms n
 
-pub ticks-left-requires : goal.ticks-left-requires
-ticks-left-requires c =
+pub ticks_left-requires : goal.ticks_left-requires
+ticks_left-requires c =
     let s = c.args.self.now in
-    ap (λ (m : Option ℕ). in_time (until_mark s.count m)) c.at-or.ensures
+    ap (λ (m : Option ℕ). in_time (until_mark s.count m)) c.at_or.ensures
     ∙ ap in_time (read s.count s.marks c.args.number)
     ∙ ranged_at _ s.ranged c.args.number
 
 pub returns : goal.returns
 returns c =
     let s = c.args.self.now in
-    c.ticks-left.ensures ∙ ap (until_mark s.count) c.at-or.ensures ∙ read s.count s.marks c.args.number
+    c.ticks_left.ensures ∙ ap (until_mark s.count) c.at_or.ensures ∙ read s.count s.marks c.args.number

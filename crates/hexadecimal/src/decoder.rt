@@ -1,8 +1,8 @@
 //! From text to bytes.
 ghost use Rattle.std.specs.Prelude.{◌≡◌, ◌+◌, ◌*◌, ◌%◌, ◌<◌, ◌≤◌, true, ◌++◌, length, drop, IfOk, MatchOption};
 ghost use Rattle.terms.specs.Each.{all};
-ghost use Rattle.hex.specs.Text.{bytes_of, digit_value, is_hex_digit};
-ghost use Rattle.hex.specs.Promises.{Decodes, FirstOther};
+ghost use Rattle.hexadecimal.specs.Text.{bytes_of, digit_value, is_hex_digit};
+ghost use Rattle.hexadecimal.specs.Promises.{Decodes, FirstOther};
 
 use crate::fault::HexFault;
 

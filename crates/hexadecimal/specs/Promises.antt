@@ -1,9 +1,9 @@
 -- What decoding promises.
 use Rattle.std.specs.Prelude.{◌≡◌, ℕ, ◌*◌, ◌%◌, ◌<◌, ◌≤◌, true, false, List, ◌++◌, length, take, drop, Ok, Err, Result, slice_index}
 use Rattle.terms.specs.Each.{all}
-use Rattle.hex.specs.Text.{bytes_of, is_hex_digit}
-use Rattle.hex.specs.declared.fault.HexFault.{HexFault}
-use Rattle.hex.specs.declared.fault.HexFault.TheVariants.{TooLong, Character, Odd}
+use Rattle.hexadecimal.specs.Text.{bytes_of, is_hex_digit}
+use Rattle.hexadecimal.specs.declared.fault.HexFault.{HexFault}
+use Rattle.hexadecimal.specs.declared.fault.HexFault.TheVariants.{TooLong, Character, Odd}
 
 -- the first character that is no digit stands at this place
 abbrev pub FirstOther : List ℕ → ℕ → Type 0

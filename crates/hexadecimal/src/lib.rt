@@ -1,4 +1,6 @@
 //! Capital hexadecimal, as frames are typed and printed.
+#![tactic(auto)]
+
 mod decoder;
 pub mod fault;
 

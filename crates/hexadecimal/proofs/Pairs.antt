@@ -2,7 +2,7 @@
 use Rattle.std.proofs.Common.{◌≡◌, ℕ, ◌+◌, ◌*◌, ◌<◌, ◌≤◌, List, [], ◌∷◌, ◌++◌, length, get_or, take, drop, set, sym, ap, ◌∙◌, append_assoc, arith}
 use Rattle.std.proofs.lemmas.List.{append-nil, drop_all, drop-drop, drop-set-lt, take-append-drop, take_more_set}
 use Rattle.terms.proofs.Twos.{drop_two}
-use Rattle.hex.specs.Text.{bytes_of, digit_value}
+use Rattle.hexadecimal.specs.Text.{bytes_of, digit_value}
 
 module _ (text out was : List ℕ) (i : ℕ) (inv : take i out ++ bytes_of (drop (2 * i) text) ≡ bytes_of text) (behind : drop i out ≡ drop i was) where
   -- one more byte is put
