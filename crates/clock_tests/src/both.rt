@@ -1,97 +1,95 @@
 //! What both clocks do: each test is written for any clock, and run on each.
 use clock::{Clock, CountdownClock, MarkClock};
-use std::test::*;
+use std::process::Abort;
 
 /// Checks the ticks left of a number that runs.
-fn runs<C: Clock>(clock: &C, number: u8, ticks: u16) -> Result<(), Fail> {
-    assert_eq!(clock.left(number), Some(ticks));
-    Ok(())
+fn runs<C: Clock>(rt: &impl Abort, clock: &C, number: u8, ticks: u16) {
+    assert_eq!(rt; clock.left(number), Some(ticks));
 }
 
 /// Checks that a number is stopped.
-fn rests<C: Clock>(clock: &C, number: u8) -> Result<(), Fail> {
-    assert_eq!(clock.left(number), None);
-    Ok(())
+fn rests<C: Clock>(rt: &impl Abort, clock: &C, number: u8) {
+    assert_eq!(rt; clock.left(number), None);
 }
 
 /// A number set to three ticks is read after each pass, and stays at 0 for 300 more until it is set again.
-fn runs_out<C: Clock>(clock: &mut C) -> Result<(), Fail> {
+fn runs_out<C: Clock>(rt: &impl Abort, clock: &mut C) {
     clock.set(7, 3);
-    runs(clock, 7, 3)?;
+    runs(rt, clock, 7, 3);
     clock.pass();
-    runs(clock, 7, 2)?;
+    runs(rt, clock, 7, 2);
     clock.pass();
-    runs(clock, 7, 1)?;
+    runs(rt, clock, 7, 1);
     for _ in 0..301 {
         clock.pass();
-        runs(clock, 7, 0)?;
+        runs(rt, clock, 7, 0);
     }
     clock.set(7, 2);
-    runs(clock, 7, 2)
+    runs(rt, clock, 7, 2);
 }
 
 /// A number is set to 1 to 6,000 ticks; 0 and 6,001 leave it as it was.
-fn takes_times<C: Clock>(clock: &mut C) -> Result<(), Fail> {
+fn takes_times<C: Clock>(rt: &impl Abort, clock: &mut C) {
     clock.set(0, 0);
     clock.set(1, 6001);
-    rests(clock, 0)?;
-    rests(clock, 1)?;
+    rests(rt, clock, 0);
+    rests(rt, clock, 1);
     clock.set(0, 1);
     clock.set(1, 6000);
     clock.set(0, 6001);
     clock.set(1, 0);
-    runs(clock, 0, 1)?;
-    runs(clock, 1, 6000)
+    runs(rt, clock, 0, 1);
+    runs(rt, clock, 1, 6000);
 }
 
 /// Numbers go up to 63; those above read as stopped, whatever is done to them.
-fn takes_numbers<C: Clock>(clock: &mut C) -> Result<(), Fail> {
+fn takes_numbers<C: Clock>(rt: &impl Abort, clock: &mut C) {
     clock.set(63, 10);
     clock.set(64, 20);
     clock.set(255, 30);
     clock.stop(64);
     clock.stop(255);
-    runs(clock, 63, 10)?;
-    rests(clock, 64)?;
-    rests(clock, 255)
+    runs(rt, clock, 63, 10);
+    rests(rt, clock, 64);
+    rests(rt, clock, 255);
 }
 
 /// Stopping touches no other number, and a stopped one stays so; clearing stops all.
-fn stops<C: Clock>(clock: &mut C) -> Result<(), Fail> {
+fn stops<C: Clock>(rt: &impl Abort, clock: &mut C) {
     clock.set(4, 40);
     clock.set(5, 50);
     clock.set(6, 60);
     clock.stop(5);
     clock.pass();
-    runs(clock, 4, 39)?;
-    rests(clock, 5)?;
-    runs(clock, 6, 59)?;
+    runs(rt, clock, 4, 39);
+    rests(rt, clock, 5);
+    runs(rt, clock, 6, 59);
     clock.clear();
-    rests(clock, 4)?;
-    rests(clock, 6)
+    rests(rt, clock, 4);
+    rests(rt, clock, 6);
 }
 
 /// All of the above, one after the other, each from a clock at rest.
-fn keeps_time<C: Clock>(clock: &mut C) -> Result<(), Fail> {
-    runs_out(clock)?;
+fn keeps_time<C: Clock>(rt: &impl Abort, clock: &mut C) {
+    runs_out(rt, clock);
     clock.clear();
-    takes_times(clock)?;
+    takes_times(rt, clock);
     clock.clear();
-    takes_numbers(clock)?;
+    takes_numbers(rt, clock);
     clock.clear();
-    stops(clock)
+    stops(rt, clock);
 }
 
 #[test]
-fn countdown() -> Result<(), Fail> {
-    keeps_time(&mut CountdownClock::new())
+fn countdown(rt: HostRuntime) {
+    keeps_time(&rt, &mut CountdownClock::new());
 }
 
 /// The count wraps while the number runs, as it runs out, and while it stays at 0.
 #[test]
-fn marks() -> Result<(), Fail> {
-    keeps_time(&mut MarkClock::new())?;
-    keeps_time(&mut MarkClock::starting_at(u32::MAX))?;
-    keeps_time(&mut MarkClock::starting_at(u32::MAX - 2))?;
-    keeps_time(&mut MarkClock::starting_at(u32::MAX - 100))
+fn marks(rt: HostRuntime) {
+    keeps_time(&rt, &mut MarkClock::new());
+    keeps_time(&rt, &mut MarkClock::starting_at(u32::MAX));
+    keeps_time(&rt, &mut MarkClock::starting_at(u32::MAX - 2));
+    keeps_time(&rt, &mut MarkClock::starting_at(u32::MAX - 100));
 }

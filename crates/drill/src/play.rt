@@ -8,9 +8,9 @@ use host::{Host, Order};
 
 /// Does a step, and says whether it was done: a join may be refused.
 pub(crate) fn take_step<H: Host, C: Clock>(host: &mut H, clock: &mut C, step: Step) -> bool
-    ensures said { result ≡ is_done (hosted host.old) step }
-    ensures host { hosted host.new ≡ host_after (hosted host.old) step }
-    ensures clock { clocked clock.new ≡ clock_after (hosted host.old) (clocked clock.old) step }
+    ensures said { result ≡ is_done (H.hosted host.old) step }
+    ensures host { H.hosted host.new ≡ host_after (H.hosted host.old) step }
+    ensures clock { C.clocked clock.new ≡ clock_after (H.hosted host.old) (C.clocked clock.old) step }
 {
     match step {
         Step::Hold(call) => {

@@ -3,11 +3,15 @@ use crate::play::take_step;
 use crate::step::{SCRIPT, Step};
 use clock::Clock;
 use host::{CALLS, Host};
-use std::alloc::Global;
-use std::fmt;
+use std::alloc::{AllocError, Global};
 use std::fmt::Write;
 
-fn write_call<H: Host, C: Clock>(text: &mut String, host: &H, clock: &C, call: u8) -> fmt::Result {
+fn write_call<H: Host, C: Clock>(
+    text: &mut String,
+    host: &H,
+    clock: &C,
+    call: u8,
+) -> Result<(), AllocError> {
     let mode = host.mode(call).name();
     write!(text, " {mode}, ")?;
     match clock.left(call) {
@@ -16,7 +20,7 @@ fn write_call<H: Host, C: Clock>(text: &mut String, host: &H, clock: &C, call: u
     }
 }
 
-fn write_running<C: Clock>(text: &mut String, clock: &C) -> fmt::Result {
+fn write_running<C: Clock>(text: &mut String, clock: &C) -> Result<(), AllocError> {
     for call in 0..CALLS as u8 {
         if let Some(ticks) = clock.left(call) {
             write!(text, " call {call} has {ticks} left;")?;
@@ -25,7 +29,7 @@ fn write_running<C: Clock>(text: &mut String, clock: &C) -> fmt::Result {
     writeln!(text)
 }
 
-fn write_step(text: &mut String, step: Step, done: bool) -> fmt::Result {
+fn write_step(text: &mut String, step: Step, done: bool) -> Result<(), AllocError> {
     let answer = if done { "yes" } else { "no" };
     match step {
         Step::Hold(call) => write!(text, "hold call {call}:"),
@@ -41,7 +45,7 @@ pub(crate) fn transcript<H: Host + Drop, C: Clock + Drop>(
     heap: Global,
     mut host: H,
     mut clock: C,
-) -> Result<String, fmt::Error> {
+) -> Result<String, AllocError> {
     let mut text = String::new(heap);
     for step in SCRIPT {
         let done = take_step(&mut host, &mut clock, step);

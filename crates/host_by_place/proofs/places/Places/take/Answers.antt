@@ -8,4 +8,4 @@ pub invariant_of-self : goal.invariant_of-self
 invariant_of-self c =
     let x = c.args.self.now in
     let f = c.in-Some.ensures in
-    (subst (λ k. Kept x.total (set x.calls k (Some c.args.call))) (sym f.1) (kept_taken x.total x.calls c.args.call x.kept c.requires (ltb-true _ _ f.0)), tt)
+    record { kept = subst (λ k. Kept x.total (set x.calls k (Some c.args.call))) (sym f.1) (kept_taken x.total x.calls c.args.call x.kept c.requires (ltb-true _ _ f.0)) }

@@ -18,10 +18,11 @@ returns-then-not-take c =
 pub invariant_of-self-2 : goal.invariant_of-self-2
 invariant_of-self-2 c =
     let x = c.args.self.now in
-    let t = c.if-not-take.ensures in (
-      (ap length c.put.ensures ∙ length-set x.held c.args.call _ ∙ x.whole.0, x.whole.1),
-      (circuit_apart x c.args.call c.if-not-is_held.ensures _ c.put.ensures _ t.said t.calls, tt),
-    )
+    let t = c.if-not-take.ensures in
+    record {
+      whole = (ap length c.put.ensures ∙ length-set x.held c.args.call _ ∙ x.whole.0, x.whole.1);
+      apart = circuit_apart x c.args.call c.if-not-is_held.ensures _ c.put.ensures _ t.said t.calls;
+    }
 
 pub returns : goal.returns
 returns c =
