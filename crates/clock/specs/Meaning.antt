@@ -1,5 +1,5 @@
 -- What a clock holds: for each number that it times the ticks left, or that it is stopped.
-use Rattle.std.specs.Prelude.{◌≡◌, ℕ, ◌-◌, Bool, true, cond, List, map, length, set, replicate, Some, None, Option, nat_le, slice_index_or, slice_set}
+use Rattle.std.specs.Prelude.{◌≡◌, ℕ, ◌-◌, Bool, true, cond, List, map, length, replicate, Some, None, Option, nat_le, slice_index_or, slice_set}
 use Rattle.terms.specs.Ranges.{within}
 use Rattle.terms.specs.Each.{all}
 
