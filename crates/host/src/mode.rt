@@ -3,7 +3,6 @@ ghost use Rattle.std.specs.Prelude.{◌≡◌};
 ghost use Rattle.host.specs.Modes.{mode_name, mode_number, same_mode};
 ghost use Rattle.std.specs.Cmp.Rules.{comparing};
 ghost use Rattle.std.proofs.Common.{rules};
-ghost use Rattle.std.specs.Cmp as Keys;
 
 /// The mode of a call.
 #[derive(Clone, Copy, Eq)]
@@ -39,7 +38,7 @@ impl Mode {
 impl PartialEq for Mode {
     ghost eq = { λ m n. same_mode m n };
 
-    ghost laws = { Keys.partial_equiv_from_equiv (Prim.search (comparing, rules)) };
+    ghost laws = { Prim.search (comparing, rules) };
 
     fn eq(&self, other: &Mode) -> bool {
         self.number() == other.number()

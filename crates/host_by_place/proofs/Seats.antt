@@ -4,7 +4,7 @@ use Rattle.std.proofs.lemmas.List.{length-map, length-set, get_or-set_other}
 use Rattle.std.proofs.lemmas.Bool.{cases_eq, cases_lt, eq-eqb, ne_eqb, lt-ltb, le-ltb, cond-true, cond-false}
 use Rattle.host.specs.Meaning.{call_count, most_places}
 use Rattle.host_by_place.specs.Places.{times, has_call, without, first_free, has_free, Kept}
-use Rattle.host_by_place.specs.Listed.{sum, sum_none, sum_both, sum_one}
+use Rattle.host_by_place.proofs.Listed.{sum, sum_none, sum_both, sum_one}
 
 abbrev one : Bool → ℕ
 one b = cond {A = ℕ} b 1 0

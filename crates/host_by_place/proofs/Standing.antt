@@ -4,13 +4,13 @@ use Rattle.std.proofs.lemmas.List.{get_or_past, get_or-set_same, get_or-set_othe
 use Rattle.std.proofs.lemmas.Bool.{cases_eq, cases_lt, lt-ltb, le-ltb, ltb-true, ltb-false, cond-true, cond-false}
 use Rattle.host.specs.Modes.{same_mode}
 use Rattle.host.specs.Meaning.{HostMeaning, call_count, most_places, mode_of, in_mode, can_join_port, can_join_circuit}
-use Rattle.host_by_place.specs.Places.{times, is_on, without, first_free, has_free, taking, Apart, mode_among, listing}
+use Rattle.host_by_place.specs.Places.{times, is_on, without, first_free, has_free, taking, Apart, mode_among, listing, listing_length}
 use Rattle.host_by_place.specs.ByPlace.{by_place}
 use Rattle.host_by_place.specs.declared.table.PlaceTable.{PlaceTable}
 use Rattle.host.specs.declared.mode.Mode.{Mode}
 use Rattle.host.specs.declared.order.Order.{Order}
 use Rattle.host.specs.declared.mode.Mode.TheVariants.{NotHeld, Held, OnPort, OnCircuit}
-use Rattle.host_by_place.specs.Listed.{listing_at, listing_length, listing_set, in_mode_sum, sum_same}
+use Rattle.host_by_place.proofs.Listed.{listing_at, listing_set, in_mode_sum, sum_same}
 use Rattle.host_by_place.proofs.Seats.{times_left, times_kept, times_joined, times_beside, has_free_by_taken, taken, taken_sum}
 
 abbrev meaning : List Mode → List (Option Order) → ℕ → ℕ → HostMeaning

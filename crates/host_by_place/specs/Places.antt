@@ -1,5 +1,6 @@
 -- Calls on places: for each port, or circuit, the call on it, or none; and for each call whether it is held on neither.
-use Rattle.std.specs.Prelude.{◌≡◌, ℕ, zero, suc, ◌+◌, ◌≤◌, Bool, false, cond, List, [], ◌∷◌, length, Some, None, Option, ◌==◌, nat_lt, slice_index_or, slice_set}
+use Rattle.std.specs.Prelude.{◌≡◌, ℕ, zero, suc, ◌+◌, ◌≤◌, Bool, false, cond, List, [], ◌∷◌, length, Some, None, Option, ◌==◌, nat_lt, slice_index_or, slice_set, refl}
+use Rattle.std.proofs.Common.{ap}
 use Rattle.host.specs.Meaning.{call_count, most_places}
 use Rattle.host.specs.declared.mode.Mode.{Mode}
 use Rattle.host.specs.declared.mode.Mode.TheVariants.{NotHeld, Held, OnPort, OnCircuit}
@@ -52,3 +53,9 @@ mode_among ports circuits held call = cond (is_on call ports) OnPort (cond (is_o
 unfoldable pub listing : {X : Type 0} → ℕ → (ℕ → X) → List X
 listing zero f = []
 listing (suc n) f = f 0 ∷ listing n (λ k. f (suc k))
+
+-- a listing is as long as asked for
+pub listing_length : {X : Type 0} (n : ℕ) (f : ℕ → X) → length (listing n f) ≡ n
+unfolding listing
+listing_length zero f = refl
+listing_length (suc n) f = ap suc (listing_length n (λ k. f (suc k)))

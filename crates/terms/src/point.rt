@@ -3,7 +3,6 @@ ghost use Rattle.std.specs.Prelude.{◌≡◌, false, MatchOption, ◌==◌};
 ghost use Rattle.terms.specs.Points.{is_point, point_name, point_number};
 ghost use Rattle.std.specs.Cmp.Rules.{comparing};
 ghost use Rattle.std.proofs.Common.{rules};
-ghost use Rattle.std.specs.Cmp as Keys;
 
 /// A detection point. Those from 1 to 10 lie in the calling half of a call, those from 12 on in the called half.
 #[derive(Clone, Copy, Eq)]
@@ -89,9 +88,9 @@ impl Point {
 
 /// Two points are equal where their numbers are.
 impl PartialEq for Point {
-    ghost eq = { λ p q. (point_number p == point_number q) };
+    ghost eq = { λ p q. point_number p == point_number q };
 
-    ghost laws = { Keys.partial_equiv_from_equiv (Prim.search (comparing, rules)) };
+    ghost laws = { Prim.search (comparing, rules) };
 
     fn eq(&self, other: &Point) -> bool {
         self.number() == other.number()

@@ -3,7 +3,6 @@ ghost use Rattle.std.specs.Prelude.{◌≡◌, Some, ◌==◌};
 ghost use Rattle.terms.specs.Refusals.{refusal_number, refusal_error, refusal_meaning};
 ghost use Rattle.std.specs.Cmp.Rules.{comparing};
 ghost use Rattle.std.proofs.Common.{rules};
-ghost use Rattle.std.specs.Cmp as Keys;
 
 use crate::error_code::ErrorCode;
 use std::error::Error;
@@ -68,9 +67,9 @@ impl Refusal {
 
 /// Two refusals are equal where their numbers are.
 impl PartialEq for Refusal {
-    ghost eq = { λ d e. (refusal_number d == refusal_number e) };
+    ghost eq = { λ d e. refusal_number d == refusal_number e };
 
-    ghost laws = { Keys.partial_equiv_from_equiv (Prim.search (comparing, rules)) };
+    ghost laws = { Prim.search (comparing, rules) };
 
     fn eq(&self, other: &Refusal) -> bool {
         self.number() == other.number()

@@ -2,7 +2,6 @@
 ghost use Rattle.std.specs.Prelude.{◌≡◌, true, map};
 ghost use Rattle.clock.specs.Meaning.{all_stopped, changing, in_time, one_tick_less};
 ghost use Rattle.clock.specs.ByTicks.{by_ticks};
-ghost use Rattle.std.proofs.Common.{rules, arith};
 
 use super::CountdownClock;
 use crate::{Clock, TIMER_COUNT, is_time};
@@ -50,7 +49,7 @@ impl CountdownClock {
 impl Clock for CountdownClock {
     ghost clocked = { by_ticks };
 
-    ghost ranges = { first_of (Prim.search rules, Prim.grind (arith, Self.row.coded.inj)) };
+    ghost ranges = { λ clock. clock.ranged };
 
     fn clear(&mut self) {
         self.left = [None; TIMER_COUNT];

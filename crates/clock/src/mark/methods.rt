@@ -3,7 +3,6 @@ ghost use Rattle.std.specs.Prelude.{◌≡◌, true};
 ghost use Rattle.clock.specs.Meaning.{all_stopped, changing, in_time, one_tick_less, passing};
 ghost use Rattle.clock.specs.Marks.{count_after, ticks_between, timed_by, until_mark};
 ghost use Rattle.clock.specs.ByMarks.{by_marks};
-ghost use Rattle.std.proofs.Common.{rules, arith};
 
 use super::MarkClock;
 use crate::{Clock, TIMER_COUNT, is_time};
@@ -79,7 +78,7 @@ impl MarkClock {
 impl Clock for MarkClock {
     ghost clocked = { by_marks };
 
-    ghost ranges = { first_of (Prim.search rules, Prim.grind (arith, Self.row.coded.inj)) };
+    ghost ranges = { λ clock. clock.ranged };
 
     fn clear(&mut self) {
         self.marks = [None; TIMER_COUNT];

@@ -2,7 +2,6 @@
 ghost use Rattle.std.specs.Prelude.{◌≡◌, min};
 ghost use Rattle.host.specs.Meaning.{can_join, in_mode, joining, last_order, most_places, vacant, with_order};
 ghost use Rattle.host.specs.ByCall.{by_call};
-ghost use Rattle.std.proofs.Common.{rules, arith};
 
 use super::CallTable;
 use crate::{CALLS, Host, MOST_PLACES, Mode, Order};
@@ -67,7 +66,7 @@ impl CallTable {
 impl Host for CallTable {
     ghost hosted = { by_call };
 
-    ghost ranges = { first_of (Prim.search rules, Prim.grind (arith, Self.row.coded.inj)) };
+    ghost ranges = { λ host. (host.whole.0, host.whole.1, host.few.0, host.few.1) };
 
     fn clear(&mut self) {
         self.modes = [Mode::NotHeld; CALLS];

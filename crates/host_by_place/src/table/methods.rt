@@ -2,10 +2,9 @@
 ghost use Rattle.std.specs.Prelude.{◌≡◌, min, replicate, None as Free};
 ghost use Rattle.host.specs.Modes.{same_mode};
 ghost use Rattle.host.specs.Meaning.{can_join_circuit, can_join_port, last_order, mode_of, most_places, vacant, call_count};
-ghost use Rattle.host_by_place.specs.Places.{mode_among};
+ghost use Rattle.host_by_place.specs.Places.{listing_length, mode_among};
 ghost use Rattle.host_by_place.specs.ByPlace.{by_place, seated, set_aside};
 ghost use Rattle.host.specs.declared.mode.Mode.TheVariants.{Held, OnCircuit, OnPort};
-ghost use Rattle.host_by_place.specs.Listed.{listing_length};
 
 use super::PlaceTable;
 use crate::places::Places;
@@ -106,7 +105,7 @@ impl PlaceTable {
 impl Host for PlaceTable {
     ghost hosted = { by_place };
 
-    ghost ranges = { λ x. (listing_length call_count (mode_among x.ports.calls x.circuits.calls x.held), x.whole.1, x.ports.kept.1, x.circuits.kept.1) };
+    ghost ranges = { λ host. (listing_length call_count (mode_among host.ports.calls host.circuits.calls host.held), host.whole.1, host.ports.kept.1, host.circuits.kept.1) };
 
     fn clear(&mut self) {
         *self = PlaceTable::new(self.ports.total, self.circuits.total);

@@ -7,11 +7,6 @@ use Rattle.host.specs.Meaning.{in_mode}
 use Rattle.host_by_place.specs.Places.{listing}
 use Rattle.host.specs.declared.mode.Mode.{Mode}
 
-pub listing_length : {X : Type 0} (n : ℕ) (f : ℕ → X) → length (listing n f) ≡ n
-unfolding listing
-listing_length zero f = refl
-listing_length (suc n) f = ap suc (listing_length n (λ k. f (suc k)))
-
 pub listing_at : {X : Type 0} (n : ℕ) (f : ℕ → X) (k : ℕ) (d : X) → k < n → slice_index_or (listing n f) k d ≡ f k
 unfolding listing
 listing_at zero f k d l = absurd (omega arith)
