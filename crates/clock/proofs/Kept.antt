@@ -1,24 +1,37 @@
--- Every number is there and in time, after each change as before.
-use Rattle.std.proofs.Common.{◌≡◌, ℕ, true, length, Some, None, Option, refl, ap, ◌∙◌, ⊎_elim, arith}
-use Rattle.std.proofs.lemmas.List.{length-set, length-map, get_or_past}
-use Rattle.std.proofs.lemmas.Bool.{cases_lt, leb-true, le-leb}
-use Rattle.terms.proofs.Each.{all_at, all_set, all_map}
-use Rattle.clock.specs.Meaning.{ClockMeaning, ClockRanges, changing, in_time, longest_time, one_tick_less, passing, ticks_left}
+-- Every number is in time, after each change as before.
+use Rattle.std.proofs.Common.{◌≡◌, ℕ, true, List, map, length, slice_set, slice_index_or, Some, None, Option, refl, ap, ⊎_elim, arith}
+use Rattle.std.proofs.lemmas.List.{get_or_past, length-map, map-set}
+use Rattle.std.proofs.lemmas.List.Elements.{All-get_or, All-map, All-set, All-weaker}
+use Rattle.std.proofs.lemmas.List.Sums.{AllPass-from_list_all, list_all-from_AllPass}
+use Rattle.std.proofs.lemmas.Bool.{cases_lt}
+use Rattle.std.proofs.lemmas.Bool.Decides.{nat_tests}
+use Rattle.std.specs.List.{All, list_all}
+use Rattle.clock.specs.Meaning.{in_time, one_tick_less}
 
-less_in_time : (t : Option ℕ) → in_time t ≡ true → in_time (one_tick_less t) ≡ true
-less_in_time (Some k) e = le-leb _ _ (omega (arith, leb-true k longest_time e))
+abbrev InTime : Option ℕ → Type 0
+InTime t = in_time t ≡ true
+
+less_in_time : (t : Option ℕ) → InTime t → InTime (one_tick_less t)
+less_in_time (Some k) e = grind (arith, nat_tests)
 less_in_time None e = refl
 
-module _ (c : ClockMeaning) (r : ClockRanges c) where
-  pub ranged_changing : (n : ℕ) (time : Option ℕ) → in_time time ≡ true → ClockRanges (changing c n time)
-  ranged_changing n time h = (length-set c.timers n time ∙ r.0, all_set in_time c.timers n time r.1 h)
+module _ (times : List (Option ℕ)) (e : list_all in_time times ≡ true) where
+  each_in_time : All InTime times
+  each_in_time = AllPass-from_list_all in_time times e
 
-  pub ranged_passing : ClockRanges (passing c)
-  ranged_passing =
-      (length-map c.timers one_tick_less ∙ r.0, all_map in_time one_tick_less less_in_time c.timers r.1)
+  pub in_time-set : (n : ℕ) (time : Option ℕ) → in_time time ≡ true → list_all in_time (slice_set times n time) ≡ true
+  in_time-set n time h = list_all-from_AllPass in_time _ (All-set InTime times n time h each_in_time)
 
-  -- no number has more ticks left than it can be set to, whatever the number
-  pub ranged_at : (n : ℕ) → in_time (ticks_left c n) ≡ true
-  ranged_at n =
-      ⊎_elim (λ l. all_at in_time c.timers n None r.1 l)
-      (λ l. ap in_time (get_or_past c.timers n None l)) (cases_lt n (length c.timers))
+  pub in_time-map : list_all in_time (map one_tick_less times) ≡ true
+  in_time-map =
+      list_all-from_AllPass in_time _
+      (All-map InTime one_tick_less times (All-weaker InTime (λ t. InTime (one_tick_less t)) less_in_time times each_in_time))
+
+  -- whatever the number
+  pub in_time-at : (n : ℕ) → in_time (slice_index_or times n None) ≡ true
+  in_time-at n =
+      ⊎_elim (λ l. All-get_or InTime times n None l each_in_time)
+      (λ l. ap in_time (get_or_past times n None l)) (cases_lt n (length times))
+
+-- what a change of one number, or of all of them, comes to
+pub ruleset changes = (in_time-set, in_time-map, map-set, length-map)

@@ -1,7 +1,7 @@
 -- What a clock holds: for each number that it times the ticks left, or that it is stopped.
-use Rattle.std.specs.Prelude.{◌≡◌, ℕ, ◌-◌, Bool, true, cond, List, map, length, replicate, Some, None, Option, nat_le, slice_index_or, slice_set}
+use Rattle.std.specs.Prelude.{◌≡◌, ℕ, ◌-◌, Bool, true, if◌then◌else◌, IsTrue, List, map, length, replicate, Some, None, Option, nat_le, slice_index_or, slice_set}
+use Rattle.std.specs.List.{list_all}
 use Rattle.terms.specs.Ranges.{within}
-use Rattle.terms.specs.Each.{all}
 
 -- the numbers that a clock times are those below this
 abbrev pub timer_count : ℕ
@@ -37,7 +37,7 @@ is_time k = within 1 longest_time k
 
 -- a number set to so many ticks; 0, or more than the longest time, has no effect
 abbrev pub setting : ClockMeaning → ℕ → ℕ → ClockMeaning
-setting c n k = cond (is_time k) (changing c n (Some k)) c
+setting c n k = if is_time k then changing c n (Some k) else c
 
 -- a number stopped
 abbrev pub stopping : ClockMeaning → ℕ → ClockMeaning
@@ -59,4 +59,4 @@ in_time None = true
 
 -- every number is there, and is in time
 abbrev pub ClockRanges : ClockMeaning → Type 0
-ClockRanges c = (length c.timers ≡ timer_count) × (all in_time c.timers ≡ true)
+ClockRanges c = (length c.timers ≡ timer_count) × IsTrue (list_all in_time c.timers)

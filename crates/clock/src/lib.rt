@@ -20,7 +20,7 @@ pub const LONGEST_TIME: u16 = 6000;
 pub fn is_time(ticks: u16) -> bool
     ensures { result ≡ is_time ticks }
 {
-    ticks >= 1 && ticks <= LONGEST_TIME
+    (1..=LONGEST_TIME).contains(&ticks)
 }
 
 /// A clock of ticks, which times the numbers from 0 to 63.
