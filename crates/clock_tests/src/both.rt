@@ -2,44 +2,34 @@
 use clock::{Clock, CountdownClock, MarkClock};
 use std::process::Abort;
 
-/// Checks the ticks left of a number that runs.
-fn runs<C: Clock>(rt: &impl Abort, clock: &C, number: u8, ticks: u16) {
-    assert_eq!(rt; clock.left(number), Some(ticks));
-}
-
-/// Checks that a number is stopped.
-fn rests<C: Clock>(rt: &impl Abort, clock: &C, number: u8) {
-    assert_eq!(rt; clock.left(number), None);
-}
-
 /// A number set to three ticks is read after each pass, and stays at 0 for 300 more until it is set again.
 fn runs_out<C: Clock>(rt: &impl Abort, clock: &mut C) {
     clock.set(7, 3);
-    runs(rt, clock, 7, 3);
+    assert_eq!(rt; clock.left(7), Some(3));
     clock.pass();
-    runs(rt, clock, 7, 2);
+    assert_eq!(rt; clock.left(7), Some(2));
     clock.pass();
-    runs(rt, clock, 7, 1);
+    assert_eq!(rt; clock.left(7), Some(1));
     for _ in 0..301 {
         clock.pass();
-        runs(rt, clock, 7, 0);
+        assert_eq!(rt; clock.left(7), Some(0));
     }
     clock.set(7, 2);
-    runs(rt, clock, 7, 2);
+    assert_eq!(rt; clock.left(7), Some(2));
 }
 
 /// A number is set to 1 to 6,000 ticks; 0 and 6,001 leave it as it was.
 fn takes_times<C: Clock>(rt: &impl Abort, clock: &mut C) {
     clock.set(0, 0);
     clock.set(1, 6001);
-    rests(rt, clock, 0);
-    rests(rt, clock, 1);
+    assert_eq!(rt; clock.left(0), None);
+    assert_eq!(rt; clock.left(1), None);
     clock.set(0, 1);
     clock.set(1, 6000);
     clock.set(0, 6001);
     clock.set(1, 0);
-    runs(rt, clock, 0, 1);
-    runs(rt, clock, 1, 6000);
+    assert_eq!(rt; clock.left(0), Some(1));
+    assert_eq!(rt; clock.left(1), Some(6000));
 }
 
 /// Numbers go up to 63; those above read as stopped, whatever is done to them.
@@ -49,9 +39,9 @@ fn takes_numbers<C: Clock>(rt: &impl Abort, clock: &mut C) {
     clock.set(255, 30);
     clock.stop(64);
     clock.stop(255);
-    runs(rt, clock, 63, 10);
-    rests(rt, clock, 64);
-    rests(rt, clock, 255);
+    assert_eq!(rt; clock.left(63), Some(10));
+    assert_eq!(rt; clock.left(64), None);
+    assert_eq!(rt; clock.left(255), None);
 }
 
 /// Stopping touches no other number, and a stopped one stays so; clearing stops all.
@@ -61,12 +51,12 @@ fn stops<C: Clock>(rt: &impl Abort, clock: &mut C) {
     clock.set(6, 60);
     clock.stop(5);
     clock.pass();
-    runs(rt, clock, 4, 39);
-    rests(rt, clock, 5);
-    runs(rt, clock, 6, 59);
+    assert_eq!(rt; clock.left(4), Some(39));
+    assert_eq!(rt; clock.left(5), None);
+    assert_eq!(rt; clock.left(6), Some(59));
     clock.clear();
-    rests(rt, clock, 4);
-    rests(rt, clock, 6);
+    assert_eq!(rt; clock.left(4), None);
+    assert_eq!(rt; clock.left(6), None);
 }
 
 /// All of the above, one after the other, each from a clock at rest.
