@@ -89,6 +89,7 @@ impl Clock for MarkClock {
 
     fn left(&self, number: u8) -> Option<u16> {
         let mark = at_or(&self.marks, number, None)?;
+        // The cast loses no bits, since no number has more ticks left than `LONGEST_TIME`.
         Some(mark.wrapping_sub(self.count) as u16)
     }
 }
