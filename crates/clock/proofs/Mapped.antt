@@ -1,32 +1,20 @@
 -- What an array's `map` gives.
-use Rattle.std.proofs.Common.{◌≡◌, ℕ, zero, suc, ◌+◌, ◌<◌, ◌≤◌, List, [], ◌∷◌, map, length, slice_index_or, sym, refl, subst, ap, ◌∙◌, ⊎_elim, arith}
-use Rattle.std.proofs.lemmas.Bool.{cases_eq}
+use Rattle.std.proofs.Common.{◌≡◌, ℕ, zero, suc, ◌+◌, List, map, length, drop, sym, subst, ap, ◌∙◌, arith}
+use Rattle.std.proofs.lemmas.List.{drop_all, drop_more}
 use Rattle.std.specs.Array.{IsMapOf, MapsFrom}
 use Rattle.std.specs.Fn.{Called}
 use denote.Param.Members.{Mut}
 
-module _ {A B C : Type 0} (u : B → C) (v : A → C) where
-  each_same : (xs : List A) (ys : List B) → length ys ≡ length xs → ((k : ℕ) (d : A) (e : B) → k < length xs → u (slice_index_or ys k e) ≡ v (slice_index_or xs k d)) → map u ys ≡ map v xs
-  each_same [] [] l h = refl
-  each_same [] (y ∷ ys) l h = absurd (omega arith)
-  each_same (x ∷ xs) [] l h = absurd (omega arith)
-  each_same (x ∷ xs) (y ∷ ys) l h =
-      let first = h zero x y (omega arith) in
-      let rest = each_same xs ys (omega arith) (λ k d e m. h (suc k) d e (omega arith)) in
-      cc
+-- u of a new element is v of the old one where a call gives the one of the other, and no call changes the function
+module _ {A B C F : Type 0} (u : B → C) (v : A → C) {g : Mut F (A × Unit {0}) B} {f : F} (gives : (x : A) (y : B) (q : F) → Called g f (x, tt) y q → (u y ≡ v x) × (q ≡ f)) where
+  map-from_MapsFrom : (xs : List A) (ys : List B) (i n : ℕ) → i + n ≡ length xs → length ys ≡ length xs → MapsFrom g f xs ys i n → map u (drop i ys) ≡ map v (drop i xs)
+  map-from_MapsFrom xs ys i zero e l m =
+      ap (map u) (drop_all i ys (omega arith)) ∙ sym (ap (map v) (drop_all i xs (omega arith)))
+  map-from_MapsFrom xs ys i (suc n) e l (q, x, y, at_x, at_y, called, more) =
+      let here = gives x y q called in
+      let rest = map-from_MapsFrom xs ys (i + 1) n (omega arith) l (subst (λ (p : F). MapsFrom g p xs ys (i + 1) n) here.1 more) in
+      cc (here.0, rest, at_x.0, at_y.0, ap (map u) (drop_more ys i y (omega arith)), ap (map v) (drop_more xs i x (omega arith)))
 
-  module _ {F : Type 0} {g : Mut F (A × Unit {0}) B} {f : F} (gives : (x : A) (y : B) (q : F) → Called g f (x, tt) y q → (u y ≡ v x) × (q ≡ f)) where
-    same_at : (xs : List A) (ys : List B) (i n : ℕ) → MapsFrom g f xs ys i n → (k : ℕ) (d : A) (e : B) → i ≤ k → k < i + n → u (slice_index_or ys k e) ≡ v (slice_index_or xs k d)
-    same_at xs ys i zero m k d e l h = absurd (omega arith)
-    same_at xs ys i (suc n) (q, x, y, at_x, at_y, called, more) k d e l h =
-        let r = gives x y q called in
-        ⊎_elim (λ (j : k ≡ i).
-        subst (λ (z : ℕ). u (slice_index_or ys z e) ≡ v (slice_index_or xs z d)) (sym j)
-        (ap u (at_y.1 e) ∙ r.0 ∙ sym (ap v (at_x.1 d))))
-        (λ j. same_at xs ys (i + 1) n (subst (λ (p : F). MapsFrom g p xs ys (i + 1) n) r.1 more) k d e (omega arith) (omega arith))
-        (cases_eq k i)
-
-    -- u of the new elements is v of the old ones, where it is so of what each call gives and takes, and no call changes the function
-    pub map-from_IsMapOf : {xs : List A} {ys : List B} {n : ℕ} → length xs ≡ n → IsMapOf g f xs ys n → map u ys ≡ map v xs
-    map-from_IsMapOf {xs = xs} {ys = ys} {n = n} l m =
-        each_same xs ys (m.long ∙ sym l) (λ k d e h. same_at xs ys 0 n m.each k d e (omega arith) (omega arith))
+  pub map-from_IsMapOf : {xs : List A} {ys : List B} {n : ℕ} → length xs ≡ n → IsMapOf g f xs ys n → map u ys ≡ map v xs
+  map-from_IsMapOf {xs = xs} {ys = ys} {n = n} l m =
+      map-from_MapsFrom xs ys 0 n (omega arith) (m.long ∙ sym l) m.each
