@@ -50,6 +50,7 @@ impl MarkClock {
     fn mark_after_tick(&self, mark: Option<u32>) -> Option<u32>
         ensures { until_mark (count_after self.now.count 1) result ≡ one_tick_less (until_mark self.now.count mark) }
     {
+        // A match says at a glance which marks move; in `map` the same choice would stand a level deeper, in an `if`.
         match mark {
             Some(mark) if mark == self.count => Some(self.mark_after(1)),
             other => other,
