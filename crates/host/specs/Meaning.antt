@@ -1,9 +1,12 @@
 -- What a host means: the mode and the last order of each call, and how many ports and circuits there are.
-use Rattle.std.specs.Prelude.{◌≡◌, ℕ, ◌+◌, ◌≤◌, Bool, cond, ◌&&◌, List, [], ◌∷◌, length, replicate, Some, None, Option, nat_lt, slice_index_or, slice_set}
+use Rattle.std.specs.Prelude.{◌≡◌, ℕ, ◌≤◌, Bool, ◌&&◌, if◌then◌else◌, List, length, replicate, count_by, Some, None, Option, nat_lt, slice_index_or, slice_set}
 use Rattle.host.specs.Modes.{same_mode}
+use Rattle.host.specs.Places.{mode_on}
 use Rattle.host.specs.declared.mode.Mode.{Mode}
-use Rattle.host.specs.declared.mode.Mode.TheVariants.{NotHeld, Held, OnPort, OnCircuit}
+use Rattle.host.specs.declared.mode.Mode.TheVariants.{NotHeld, Held}
 use Rattle.host.specs.declared.order.Order.{Order}
+use Rattle.host.specs.declared.place.Place.{Place}
+use Rattle.host.specs.declared.place.Place.TheVariants.{Port, Circuit}
 
 -- of each call in turn its mode and its last order, none where none was given; then the numbers of ports and circuits
 pub record HostMeaning : Type 0 where
@@ -58,25 +61,17 @@ letting_go h call order = with_order h call NotHeld order
 
 -- how many calls are in this mode
 abbrev pub in_mode : Mode → List Mode → ℕ
-in_mode m [] = 0
-in_mode m (x ∷ xs) = cond (same_mode x m) 1 0 + in_mode m xs
+in_mode m modes = count_by (λ x. same_mode x m) modes
 
--- whether a call can join: it is held, and of the places of the mode, so many in total, not all are in use
-abbrev pub can_join : Mode → ℕ → HostMeaning → ℕ → Bool
-can_join m total h call = same_mode (mode_of h call) Held && nat_lt (in_mode m h.modes) total
+-- how many such places there are
+abbrev pub total_of : HostMeaning → Place → ℕ
+total_of h Port = h.ports
+total_of h Circuit = h.circuits
+
+-- whether a call can join: it is held, and of such places not all are in use
+abbrev pub can_join : HostMeaning → ℕ → Place → Bool
+can_join h call place = same_mode (mode_of h call) Held && nat_lt (in_mode (mode_on place) h.modes) (total_of h place)
 
 -- a call that joins on this order, or all as it was where it cannot
-abbrev pub joining : Mode → ℕ → HostMeaning → ℕ → Order → HostMeaning
-joining m total h call order = cond (can_join m total h call) (with_order h call m order) h
-
-abbrev pub can_join_port : HostMeaning → ℕ → Bool
-can_join_port h call = can_join OnPort h.ports h call
-
-abbrev pub joining_port : HostMeaning → ℕ → Order → HostMeaning
-joining_port h call order = joining OnPort h.ports h call order
-
-abbrev pub can_join_circuit : HostMeaning → ℕ → Bool
-can_join_circuit h call = can_join OnCircuit h.circuits h call
-
-abbrev pub joining_circuit : HostMeaning → ℕ → Order → HostMeaning
-joining_circuit h call order = joining OnCircuit h.circuits h call order
+abbrev pub joining : HostMeaning → ℕ → Place → Order → HostMeaning
+joining h call place order = if can_join h call place then with_order h call (mode_on place) order else h

@@ -6,13 +6,25 @@ use crate::{CALLS, Mode, Order};
 
 mod methods;
 
+// A call: its mode and its last order.
+#[derive(Clone, Copy)]
+struct Call {
+    mode: Mode,
+    order: Option<Order>,
+}
+
+// A call that is not held and has no order.
+const IDLE: Call = Call {
+    mode: Mode::NotHeld,
+    order: None,
+};
+
 /// A host that keeps the mode and the last order of each call.
 #[derive(Drop)]
 pub struct CallTable {
-    modes: [Mode; CALLS],
-    orders: [Option<Order>; CALLS],
+    calls: [Call; CALLS],
     ports: u8,
     circuits: u8,
-    ghost whole: { (length modes ≡ call_count) × (length orders ≡ call_count) },
+    ghost whole: { length calls ≡ call_count },
     ghost few: { (ports ≤ most_places) × (circuits ≤ most_places) },
 }

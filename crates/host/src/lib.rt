@@ -2,15 +2,17 @@
 #![tactic(auto)]
 
 ghost use Rattle.std.specs.Prelude.{◌≡◌};
-ghost use Rattle.host.specs.Meaning.{HostMeaning, HostRanges, can_join_circuit, can_join_port, cleared, holding, joining_circuit, joining_port, letting_go, mode_of};
+ghost use Rattle.host.specs.Meaning.{HostMeaning, HostRanges, can_join, cleared, holding, joining, letting_go, mode_of};
 
 mod by_call;
 mod mode;
 mod order;
+mod place;
 
 pub use by_call::CallTable;
 pub use mode::Mode;
 pub use order::Order;
+pub use place::Place;
 
 /// How many calls a host looks after: those from 0 to 63.
 pub const CALLS: usize = 64;
@@ -31,8 +33,9 @@ pub const MOST_PLACES: u8 = 64;
 /// - A method touches no other call than its own, and the numbers of ports and circuits never change.
 /// - The ports in use are the calls held on a port, and the circuits in use the calls held on a circuit. So a port
 ///   or circuit is free again as soon as its call is held anew or let go.
-/// - A join is refused exactly where the call is not simply held (not held at all, or on a port or circuit
-///   already), or all ports, or circuits, are in use. A refused join leaves everything as it was.
+/// - A join names the `Place` that it is for, a port or a circuit. It is refused exactly where the call is not simply
+///   held (not held at all, or on a port or circuit already), or all such places are in use. A refused join leaves
+///   everything as it was.
 /// - Reading the mode changes nothing.
 pub trait Host {
     ghost hosted: { Self → HostMeaning };
@@ -45,15 +48,10 @@ pub trait Host {
     fn hold(&mut self, call: u8)
         ensures { hosted self.new ≡ holding (hosted self.old) call };
 
-    /// Puts a held call on a port and records the order, or says no.
-    fn join_port(&mut self, call: u8, order: Order) -> bool
-        ensures said { result ≡ can_join_port (hosted self.old) call }
-        ensures after { hosted self.new ≡ joining_port (hosted self.old) call order };
-
-    /// Puts a held call on a circuit and records the order, or says no.
-    fn join_circuit(&mut self, call: u8, order: Order) -> bool
-        ensures said { result ≡ can_join_circuit (hosted self.old) call }
-        ensures after { hosted self.new ≡ joining_circuit (hosted self.old) call order };
+    /// Puts a held call on a port or a circuit and records the order, or says no.
+    fn join(&mut self, call: u8, place: Place, order: Order) -> bool
+        ensures said { result ≡ can_join (hosted self.old) call place }
+        ensures after { hosted self.new ≡ joining (hosted self.old) call place order };
 
     /// Lets the call go and records the order.
     fn let_go(&mut self, call: u8, order: Order)

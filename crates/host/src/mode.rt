@@ -1,11 +1,11 @@
 //! Where a call stands with its host.
-ghost use Rattle.std.specs.Prelude.{◌≡◌};
-ghost use Rattle.host.specs.Modes.{mode_name, mode_number, same_mode};
-ghost use Rattle.std.specs.Cmp.Rules.{comparing};
-ghost use Rattle.std.proofs.Common.{rules};
+ghost use Rattle.std.specs.Prelude.{◌≡◌, Some};
+ghost use Rattle.host.specs.Modes.{mode_name, mode_number};
+
+use std::fmt;
 
 /// The mode of a call.
-#[derive(Clone, Copy, Eq)]
+#[derive(Clone, Copy, PartialEq, Eq, Debug)]
 pub enum Mode {
     NotHeld = 0,
     Held = 1,
@@ -14,13 +14,6 @@ pub enum Mode {
 }
 
 impl Mode {
-    /// The mode's number.
-    pub fn number(self) -> u8
-        ensures { result ≡ mode_number self }
-    {
-        self as u8
-    }
-
     /// The mode in words.
     pub fn name(self) -> &'static str
         ensures { mode_name self ≡ result.now }
@@ -34,13 +27,20 @@ impl Mode {
     }
 }
 
-/// Two modes are equal where their numbers are.
-impl PartialEq for Mode {
-    ghost eq = { λ m n. same_mode m n };
+/// The mode's number.
+impl From<Mode> for u8 {
+    ghost from_gives = { λ mode number. number ≡ mode_number mode };
 
-    ghost laws = { Prim.search (comparing, rules) };
+    fn from(mode: Mode) -> u8 {
+        mode as u8
+    }
+}
 
-    fn eq(&self, other: &Mode) -> bool {
-        self.number() == other.number()
+/// Shows the mode in words.
+impl fmt::Display for Mode {
+    ghost output = { λ mode. Some (mode_name mode) };
+
+    fn fmt<W: fmt::Write>(&self, f: &mut fmt::Formatter<W>) -> fmt::Result {
+        f.pad(self.name())
     }
 }

@@ -54,8 +54,7 @@ impl Order {
         ensures { result.now ≡ order_address self.now }
     {
         match self {
-            Order::Connect(address) => address.as_ascii(),
-            Order::TemporaryConnection(address) => address.as_ascii(),
+            Order::Connect(address) | Order::TemporaryConnection(address) => address.as_ascii(),
             _ => &[],
         }
     }

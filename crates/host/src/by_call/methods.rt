@@ -1,23 +1,13 @@
 //! The methods of the host by call.
 ghost use Rattle.std.specs.Prelude.{◌≡◌, min};
-ghost use Rattle.host.specs.Meaning.{can_join, in_mode, joining, last_order, most_places, vacant, with_order};
+ghost use Rattle.std.proofs.Common.{◌∙◌};
+ghost use Rattle.std.proofs.lemmas.List.{length-map};
+ghost use Rattle.host.specs.Meaning.{can_join, in_mode, last_order, most_places, total_of, vacant, with_order};
 ghost use Rattle.host.specs.ByCall.{by_call};
 
-use super::CallTable;
-use crate::{CALLS, Host, MOST_PLACES, Mode, Order};
-use terms::table::{at_or, put};
-
-fn in_mode(modes: &[Mode], mode: Mode) -> usize
-    ensures { result ≡ in_mode mode modes.now }
-{
-    let mut n = 0;
-    for m in modes {
-        if *m == mode {
-            n += 1;
-        }
-    }
-    n
-}
+use super::{Call, CallTable, IDLE};
+use crate::{CALLS, Host, MOST_PLACES, Mode, Order, Place};
+use terms::table::put;
 
 impl CallTable {
     /// A host with so many ports and circuits, each 64 where more are named.
@@ -25,8 +15,7 @@ impl CallTable {
         ensures { by_call result ≡ vacant (min ports most_places) (min circuits most_places) }
     {
         CallTable {
-            modes: [Mode::NotHeld; CALLS],
-            orders: [None; CALLS],
+            calls: [IDLE; CALLS],
             ports: ports.min(MOST_PLACES),
             circuits: circuits.min(MOST_PLACES),
         }
@@ -36,53 +25,70 @@ impl CallTable {
     pub fn last_order(&self, call: u8) -> Option<Order>
         ensures { result ≡ last_order (by_call self.now) call }
     {
-        at_or(&self.orders, call, None)
+        self.calls.get(usize::from(call))?.order
     }
 
     // The call takes this mode on this order.
+    #[tactic(auto, using(crate::proofs::Fields::fields))]
     fn take_order(&mut self, call: u8, mode: Mode, order: Order)
         ensures { by_call self.new ≡ with_order (by_call self.old) call mode order }
     {
-        put(&mut self.modes, call, mode);
-        put(&mut self.orders, call, Some(order));
+        let order = Some(order);
+        put(&mut self.calls, call, Call { mode, order });
     }
 
-    // A held call takes a mode of which there are so many places.
-    fn join(&mut self, call: u8, mode: Mode, total: u8, order: Order) -> bool
-        ensures said { result ≡ can_join mode total (by_call self.old) call }
-        ensures after { by_call self.new ≡ joining mode total (by_call self.old) call order }
+    // How many calls are in this mode.
+    fn in_mode(&self, mode: Mode) -> usize
+        ensures { result ≡ in_mode mode (by_call self.now).modes }
     {
-        if self.mode(call) != Mode::Held {
-            return false;
+        self.calls
+            .iter()
+            .map(|call| call.mode)
+            .filter(|m| *m == mode)
+            .count()
+    }
+
+    // How many such places there are.
+    fn total(&self, place: Place) -> usize
+        ensures { result ≡ total_of (by_call self.now) place }
+    {
+        match place {
+            Place::Port => usize::from(self.ports),
+            Place::Circuit => usize::from(self.circuits),
         }
-        if in_mode(&self.modes, mode) >= total as usize {
-            return false;
-        }
-        self.take_order(call, mode, order);
-        true
+    }
+
+    // Whether the call is held and such a place is free.
+    fn can_join(&self, call: u8, place: Place) -> bool
+        ensures { result ≡ can_join (by_call self.now) call place }
+    {
+        self.mode(call) == Mode::Held && self.in_mode(place.mode()) < self.total(place)
     }
 }
 
 impl Host for CallTable {
     ghost hosted = { by_call };
 
-    ghost ranges = { λ host. (host.whole.0, host.whole.1, host.few.0, host.few.1) };
+    ghost ranges = { λ host. (length-map host.calls (λ c. c.mode) ∙ host.whole, length-map host.calls (λ c. c.order) ∙ host.whole, host.few.0, host.few.1) };
 
     fn clear(&mut self) {
-        self.modes = [Mode::NotHeld; CALLS];
-        self.orders = [None; CALLS];
+        self.calls = [IDLE; CALLS];
     }
 
+    #[tactic(auto, using(crate::proofs::Fields::fields))]
     fn hold(&mut self, call: u8) {
-        put(&mut self.modes, call, Mode::Held);
+        let call = usize::from(call);
+        if call < CALLS {
+            self.calls[call].mode = Mode::Held;
+        }
     }
 
-    fn join_port(&mut self, call: u8, order: Order) -> bool {
-        self.join(call, Mode::OnPort, self.ports, order)
-    }
-
-    fn join_circuit(&mut self, call: u8, order: Order) -> bool {
-        self.join(call, Mode::OnCircuit, self.circuits, order)
+    fn join(&mut self, call: u8, place: Place, order: Order) -> bool {
+        let joins = self.can_join(call, place);
+        if joins {
+            self.take_order(call, place.mode(), order);
+        }
+        joins
     }
 
     fn let_go(&mut self, call: u8, order: Order) {
@@ -90,6 +96,8 @@ impl Host for CallTable {
     }
 
     fn mode(&self, call: u8) -> Mode {
-        at_or(&self.modes, call, Mode::NotHeld)
+        self.calls
+            .get(usize::from(call))
+            .map_or(Mode::NotHeld, |call| call.mode)
     }
 }
