@@ -1,103 +1,105 @@
 -- Calls on places: how often each stands there, and what a call that comes or leaves changes.
-use Rattle.std.proofs.Common.{◌≡◌, ℕ, zero, suc, ◌+◌, ◌<◌, ◌≤◌, Bool, true, false, cond, eqb, ltb, List, [], ◌∷◌, map, length, get_or, set, replicate, is_some, Some, None, Option, sym, refl, ap, ◌∙◌, ⊎_elim, arith}
-use Rattle.std.proofs.lemmas.List.{length-map, length-set, get_or-set_other}
-use Rattle.std.proofs.lemmas.Bool.{cases_eq, cases_lt, eq-eqb, ne_eqb, lt-ltb, le-ltb, cond-true, cond-false}
+use Rattle.std.specs.Prelude.{◌≡◌, ◌≢◌, ℕ, suc, ◌+◌, ◌-◌, ◌<◌, ◌≤◌, Bool, true, false, if◌then◌else◌, not, ◌||◌, List, [], ◌∷◌, length, map, drop, take, replicate, count_by, position, nat_eq, nat_lt, is_none, is_some, Some, None, Option, slice_index_or, slice_set, refl}
+use Rattle.std.specs.List.{list_any, position_or_len}
+use Rattle.std.specs.Option.{option_map_or}
+use Rattle.std.proofs.Common.{sym, ap, ◌∙◌, ⊎_elim, arith}
+use Rattle.std.proofs.lemmas.List.{drop-map, drop-replicate, drop-set-lt, get_or-take, length-map, length-set, length-take-le}
+use Rattle.std.proofs.lemmas.List.Folds.{fold-map, sum_by-replicate}
+use Rattle.std.proofs.lemmas.List.Sums.{count_by-le-length, sum_by-cons, sum_by-le-sum_by, sum_by-set, sum_by-take-drop}
+use Rattle.std.proofs.lemmas.List.Quantifiers.{position-Some}
+use Rattle.std.proofs.lemmas.Bool.{cases_eq, cases_lt, eq-eqb, ne_eqb, eqb-true, false≢true, lt-ltb, le-ltb, cond-true}
 use Rattle.host.specs.Meaning.{call_count, most_places}
-use Rattle.host_by_place.specs.Places.{times, has_call, without, first_free, has_free, Kept}
+use Rattle.host_by_place.specs.Places.{times, has_call, without, free_place, has_free, taking, Kept}
 use Rattle.host_by_place.proofs.Listed.{sum, sum_none, sum_both, sum_one}
 
-abbrev one : Bool → ℕ
-one b = cond {A = ℕ} b 1 0
+abbrev pub one : Bool → ℕ
+one b = if b then 1 else 0
+
+pub at_most_one : (b : Bool) → one b ≤ 1
+at_most_one true = omega arith
+at_most_one false = omega arith
+
+-- some element passes where more than none do
+pub any-count : {X : Type 0} (p : X → Bool) (xs : List X) → list_any p xs ≡ nat_lt 0 (count_by p xs)
+any-count p [] = refl
+any-count p (x ∷ xs) = step (p x) (list_any p xs) (count_by p xs) (any-count p xs) ∙ ap (nat_lt 0) (sym (sum_by-cons (λ y. one (p y)) x xs))
+  where
+    step : (b r : Bool) (n : ℕ) → r ≡ nat_lt 0 n → (b || r) ≡ nat_lt 0 (one b + n)
+    step true r n e = sym (lt-ltb _ _ (omega arith))
+    step false r n e = e ∙ ap (nat_lt 0) (omega arith)
+
+-- a place that the call has left
+left : (call : ℕ) (place : Option ℕ) → has_call call (without call place) ≡ false
+left call place = step (has_call call place) refl
+  where
+    step : (b : Bool) → has_call call place ≡ b → has_call call (if b then None else place) ≡ false
+    step true e = refl
+    step false e = e
+
+-- any other call is there as it was
+kept_there : (call other : ℕ) (place : Option ℕ) → other ≢ call → has_call other (without call place) ≡ has_call other place
+kept_there call other None d = refl
+kept_there call other (Some on) d = step (nat_eq on call) refl
+  where
+    step : (b : Bool) → nat_eq on call ≡ b → has_call other (if b then None else Some on) ≡ nat_eq on other
+    step true e = sym (ne_eqb on other (λ same. d (sym same ∙ eqb-true on call e)))
+    step false e = refl
 
 -- a call that left is on no place
 pub times_left : (ps : List (Option ℕ)) (call : ℕ) → times call (map (without call) ps) ≡ 0
-times_left [] call = refl
-times_left (None ∷ ps) call = omega (arith, times_left ps call)
-times_left (Some c ∷ ps) call =
-    ⊎_elim
-    (λ e. rw (eq-eqb c call e) (omega (arith, times_left ps call)))
-    (λ d. rw (ne_eqb c call d, ne_eqb c call d) (omega (arith, times_left ps call)))
-    (cases_eq c call)
+times_left ps call = fold-map (λ n p. n + one (has_call call p)) (without call) 0 ps ∙ (λ j. count_by (λ p. left call p j) ps) ∙ none_pass ps
+  where
+    none_pass : (ps : List (Option ℕ)) → count_by (λ p. false) ps ≡ 0
+    none_pass [] = refl
+    none_pass (p ∷ ps) = none_pass ps
 
 -- and every other call stands where it stood
-pub times_kept : (ps : List (Option ℕ)) (call other : ℕ) → (other ≡ call → ⊥) → times other (map (without call) ps) ≡ times other ps
-times_kept [] call other d = refl
-times_kept (None ∷ ps) call other d = omega (arith, times_kept ps call other d)
-times_kept (Some c ∷ ps) call other d =
-    let ih = times_kept ps call other d in
-    ⊎_elim
-    (λ e.
-    let n : eqb c other ≡ false = ne_eqb c other (λ x. d (sym x ∙ e)) in
-    rw (eq-eqb c call e, n) (omega (arith, ih)))
-    (λ n. rw (ne_eqb c call n) (ap (λ k. one (eqb c other) + k) ih))
-    (cases_eq c call)
+pub times_kept : (ps : List (Option ℕ)) (call other : ℕ) → other ≢ call → times other (map (without call) ps) ≡ times other ps
+times_kept ps call other d = fold-map (λ n p. n + one (has_call other p)) (without call) 0 ps ∙ (λ j. count_by (λ p. kept_there call other p d j) ps)
 
 -- a call that takes a free place
-pub times_taken : (ps : List (Option ℕ)) (k call other : ℕ) → k < length ps → get_or ps k None ≡ None → times other (set ps k (Some call)) ≡ one (eqb call other) + times other ps
-times_taken [] k call other l f = absurd (omega arith)
-times_taken (p ∷ ps) zero call other l f = rw f (omega arith)
-times_taken (p ∷ ps) (suc k) call other l f = omega (arith, times_taken ps k call other (omega arith) f)
+times_taken : (ps : List (Option ℕ)) (k call other : ℕ) → k < length ps → slice_index_or ps k None ≡ None → times other (slice_set ps k (Some call)) ≡ one (nat_eq call other) + times other ps
+times_taken ps k call other l free = omega (arith, sum_by-set (λ p. one (has_call other p)) ps k (Some call) None l, ap (λ p. one (has_call other p)) free)
 
--- the search for a free place, one step on
-pub free_here : (p : Option ℕ) (ps : List (Option ℕ)) → is_some p ≡ false → first_free (p ∷ ps) ≡ 0
-free_here None ps e = refl
-free_here (Some c) ps e = let z : ◌≡◌ {A = ℕ} 0 1 = cc in absurd (omega arith)
-
-pub free_further : (p : Option ℕ) (ps : List (Option ℕ)) → is_some p ≡ true → first_free (p ∷ ps) ≡ suc (first_free ps)
-free_further None ps e = let z : ◌≡◌ {A = ℕ} 0 1 = cc in absurd (omega arith)
-free_further (Some c) ps e = refl
-
-pub free_is : (ps : List (Option ℕ)) → get_or ps (first_free ps) None ≡ None
-free_is [] = refl
-free_is (None ∷ ps) = refl
-free_is (Some c ∷ ps) = free_is ps
-
-abbrev filled : Option ℕ → ℕ
-filled None = 0
-filled (Some c) = 1
-
--- how many places have a call
-abbrev pub taken : List (Option ℕ) → ℕ
-taken [] = 0
-taken (p ∷ ps) = filled p + taken ps
-
-free_after_taken : (ps : List (Option ℕ)) → first_free ps ≤ taken ps
-free_after_taken [] = omega arith
-free_after_taken (None ∷ ps) = omega arith
-free_after_taken (Some c ∷ ps) = omega (arith, free_after_taken ps)
-
--- places from the total on are free
-abbrev Open : ℕ → List (Option ℕ) → Type 0
-Open total ps = (k : ℕ) → total ≤ k → get_or ps k None ≡ None
-
-taken_few : (ps : List (Option ℕ)) (total : ℕ) → Open total ps → taken ps ≤ total
-taken_few [] total free = omega arith
-taken_few (p ∷ ps) zero free = omega (arith, ap filled (free 0 (omega arith)), taken_few ps 0 (λ k l. free (suc k) (omega arith)))
-taken_few (None ∷ ps) (suc total) free = omega (arith, taken_few ps total (λ k l. free (suc k) (omega arith)))
-taken_few (Some c ∷ ps) (suc total) free = omega (arith, taken_few ps total (λ k l. free (suc k) (omega arith)))
-
-free_few : (ps : List (Option ℕ)) (total : ℕ) → Open total ps → first_free ps < total → taken ps < total
-free_few ps zero free l = absurd (omega arith)
-free_few [] (suc total) free l = omega arith
-free_few (None ∷ ps) (suc total) free l = omega (arith, taken_few ps total (λ k l. free (suc k) (omega arith)))
-free_few (Some c ∷ ps) (suc total) free l = omega (arith, free_few ps total (λ k l. free (suc k) (omega arith)) (omega arith))
-
--- a place is free exactly where fewer are taken than there are
-pub has_free_by_taken : (ps : List (Option ℕ)) (total : ℕ) → Open total ps → has_free total ps ≡ ltb (taken ps) total
-has_free_by_taken ps total free =
+lt_suc : (m n : ℕ) → nat_lt m n ≡ nat_lt (1 + m) (suc n)
+lt_suc m n =
     ⊎_elim
-    (λ l. lt-ltb _ _ l ∙ sym (lt-ltb _ _ (free_few ps total free l)))
-    (λ l. le-ltb _ _ l ∙ sym (le-ltb _ _ (omega (arith, free_after_taken ps))))
-    (cases_lt (first_free ps) total)
+    (λ l. lt-ltb m n l ∙ sym (lt-ltb _ _ (omega arith)))
+    (λ l. le-ltb m n l ∙ sym (le-ltb _ _ (omega arith)))
+    (cases_lt m n)
 
--- the places taken are those of the calls below n, where no other is on one
-pub taken_sum : (n : ℕ) (ps : List (Option ℕ)) → ((call : ℕ) → n ≤ call → times call ps ≡ 0) → sum n (λ call. times call ps) ≡ taken ps
+-- some place is free where fewer have a call than there are
+free-count : (ps : List (Option ℕ)) → list_any is_none ps ≡ nat_lt (count_by is_some ps) (length ps)
+free-count [] = refl
+free-count (None ∷ ps) = sym (lt-ltb _ _ (omega (arith, sum_by-cons (λ p. one (is_some p)) None ps, count_by-le-length is_some ps)))
+free-count (Some c ∷ ps) = free-count ps ∙ lt_suc _ _ ∙ ap (λ n. nat_lt n (suc (length ps))) (sym (sum_by-cons (λ p. one (is_some p)) (Some c) ps))
+
+-- the search for a place that passes finds one where there is one
+pub position-any : {X : Type 0} (p : X → Bool) (xs : List X) → is_some (position p xs) ≡ list_any p xs
+position-any p xs = found (nat_lt (position_or_len p xs) (length xs)) (position_or_len p xs) ∙ within p xs
+  where
+    found : (b : Bool) (n : ℕ) → is_some (if b then Some n else None) ≡ b
+    found true n = refl
+    found false n = refl
+
+    step : (b : Bool) (m n : ℕ) (r : Bool) → nat_lt m n ≡ r → nat_lt (if not b then 1 + m else 0) (suc n) ≡ (b || r)
+    step true m n r e = lt-ltb _ _ (omega arith)
+    step false m n r e = sym (lt_suc m n) ∙ e
+
+    within : {X : Type 0} (p : X → Bool) (xs : List X) → nat_lt (position_or_len p xs) (length xs) ≡ list_any p xs
+    within p [] = refl
+    within p (x ∷ xs) = step (p x) (position_or_len p xs) (length xs) (list_any p xs) (within p xs)
+
+-- as many places have a call as calls below n are on one, where no other is
+pub taken_sum : (n : ℕ) (ps : List (Option ℕ)) → ((call : ℕ) → n ≤ call → times call ps ≡ 0) → sum n (λ call. times call ps) ≡ count_by is_some ps
 taken_sum n [] h = sum_none n
 taken_sum n (p ∷ ps) h =
-    let ih = taken_sum n ps (λ call l. omega (arith, h call l)) in
-    omega (arith, ih, counted p (λ call l. omega (arith, h call l)), sum_both n (λ call. one (has_call call p)) (λ call. times call ps))
+    let more : (call : ℕ) → times call (p ∷ ps) ≡ one (has_call call p) + times call ps = λ call. sum_by-cons (λ q. one (has_call call q)) p ps in
+    let here = counted p (λ call l. omega (arith, h call l, more call)) in
+    let rest = taken_sum n ps (λ call l. omega (arith, h call l, more call)) in
+    (λ j. sum n (λ call. more call j)) ∙ (omega (arith, here, rest, sum_both n (λ call. one (has_call call p)) (λ call. times call ps), sum_by-cons (λ q. one (is_some q)) p ps))
   where
-    counted : (p : Option ℕ) → ((call : ℕ) → n ≤ call → one (has_call call p) ≡ 0) → sum n (λ call. one (has_call call p)) ≡ filled p
+    counted : (p : Option ℕ) → ((call : ℕ) → n ≤ call → one (has_call call p) ≡ 0) → sum n (λ call. one (has_call call p)) ≡ one (is_some p)
     counted None h = sum_none n
     counted (Some c) h =
         ⊎_elim
@@ -105,43 +107,73 @@ taken_sum n (p ∷ ps) h =
         (λ l. absurd (omega (arith, h c l, cond-true {A = ℕ} _ 1 0 (eq-eqb c c refl))))
         (cases_lt c n)
 
--- what is kept of the places, as they are made and as a call leaves or comes
-pub kept_new : (total : ℕ) → total ≤ most_places → Kept total (replicate most_places None)
-kept_new total l = (refl, l, (λ k h. all_free most_places k), λ call h. refl)
+module _ (total : ℕ) (ps : List (Option ℕ)) (h : Kept total ps) where
+  -- one of the places is free where fewer have a call than there are
+  pub has_free-count : has_free total ps ≡ nat_lt (count_by is_some ps) total
+  has_free-count =
+      let long = length-take-le total ps (omega (arith, h.whole, h.few)) in
+      let same : count_by is_some (take total ps) ≡ count_by is_some ps = omega (arith, sum_by-take-drop (λ p. one (is_some p)) ps total, h.rest_free) in
+      free-count (take total ps) ∙ (λ j. nat_lt (same j) (long j))
+
+  -- a call that left
+  pub kept_without : (call : ℕ) → Kept total (map (without call) ps)
+  kept_without call = record {
+    whole = length-map ps (without call) ∙ h.whole;
+    few = h.few;
+    rest_free = ap (count_by is_some) (drop-map (without call) total ps) ∙ (omega (arith, fewer (drop total ps), h.rest_free));
+    in_range = λ other l. ⊎_elim (λ e. ap (λ n. times n (map (without call) ps)) e ∙ times_left ps call) (λ d. times_kept ps call other d ∙ h.in_range other l) (cases_eq other call);
+  }
+    where
+      step : (b : Bool) (p : Option ℕ) → one (is_some (if b then None else p)) ≤ one (is_some p)
+      step true p = omega arith
+      step false p = omega arith
+
+      fewer : (qs : List (Option ℕ)) → count_by is_some (map (without call) qs) ≤ count_by is_some qs
+      fewer qs = omega (arith, fold-map (λ n p. n + one (is_some p)) (without call) 0 qs, sum_by-le-sum_by (λ p. one (is_some (without call p))) (λ p. one (is_some p)) qs (λ p. step (has_call call p) p))
+
+  -- a call that takes the first free place
+  module _ (call k : ℕ) (free : free_place total ps ≡ Some k) where
+    found : (k < total) × (slice_index_or ps k None ≡ None)
+    found =
+        let f = position-Some is_none (take total ps) k None free in
+        let l : k < total = omega (arith, f.0, length-take-le total ps (omega (arith, h.whole, h.few))) in
+        (l, none_there _ (ap is_none (sym (get_or-take total ps k None l)) ∙ f.1))
+      where
+        none_there : (p : Option ℕ) → is_none p ≡ true → p ≡ None
+        none_there None e = refl
+        none_there (Some c) e = absurd (false≢true e)
+
+    times_joined : (other : ℕ) → times other (slice_set ps k (Some call)) ≡ one (nat_eq call other) + times other ps
+    times_joined other = times_taken ps k call other (omega (arith, found.0, h.whole, h.few)) found.1
+
+    pub kept_taken : call < call_count → Kept total (slice_set ps k (Some call))
+    kept_taken c = record {
+      whole = length-set ps k (Some call) ∙ h.whole;
+      few = h.few;
+      rest_free = ap (count_by is_some) (drop-set-lt total ps k (Some call) found.0) ∙ h.rest_free;
+      in_range = λ other l. omega (arith, times_joined other, h.in_range other l, ap one (ne_eqb call other (λ e. omega arith)));
+    }
+
+  -- where a place is free, the call is on one more; each other call is on as many as before
+  pub times_taking : (call other : ℕ) → times other (taking call total ps) ≡ (if has_free total ps then one (nat_eq call other) else 0) + times other ps
+  times_taking call other = (λ j. go (free_place total ps) refl j) ∙ (λ j. (if position-any is_none (take total ps) j then one (nat_eq call other) else 0) + times other ps)
+    where
+      go : (o : Option ℕ) → free_place total ps ≡ o → times other (option_map_or (λ k. slice_set ps k (Some call)) o ps) ≡ (if is_some o then one (nat_eq call other) else 0) + times other ps
+      go None e = omega arith
+      go (Some k) e = times_joined call k e other
+
+-- where none is free, the call changes nothing
+pub taking_none : (total : ℕ) (ps : List (Option ℕ)) (call : ℕ) → has_free total ps ≡ false → taking call total ps ≡ ps
+taking_none total ps call f = go (free_place total ps) (position-any is_none (take total ps) ∙ f)
   where
-    all_free : (n k : ℕ) → get_or {A = Option ℕ} (replicate n None) k None ≡ None
-    all_free zero k = refl
-    all_free (suc n) zero = refl
-    all_free (suc n) (suc k) = all_free n k
+    go : (o : Option ℕ) → is_some o ≡ false → option_map_or (λ k. slice_set ps k (Some call)) o ps ≡ ps
+    go None e = refl
+    go (Some k) e = absurd (false≢true (sym e))
 
-without_at : (ps : List (Option ℕ)) (call k : ℕ) → get_or (map (without call) ps) k None ≡ without call (get_or ps k None)
-without_at [] call k = refl
-without_at (p ∷ ps) call zero = refl
-without_at (p ∷ ps) call (suc k) = without_at ps call k
-
-pub kept_without : (total : ℕ) (ps : List (Option ℕ)) (call : ℕ) → Kept total ps → Kept total (map (without call) ps)
-kept_without total ps call h = (
-  length-map ps (without call) ∙ h.0,
-  h.1,
-  (λ k l. without_at ps call k ∙ ap (without call) (h.2 k l)),
-  λ other l. ⊎_elim (λ e. ap (λ n. times n (map (without call) ps)) e ∙ times_left ps call) (λ d. times_kept ps call other d ∙ h.3 other l) (cases_eq other call),
-)
-
--- a call that takes the first free place is on one more, every other call stands where it stood
-module _ (total : ℕ) (ps : List (Option ℕ)) (call : ℕ) (h : Kept total ps) (l : first_free ps < total) where
-  joined : (other : ℕ) → times other (set ps (first_free ps) (Some call)) ≡ one (eqb call other) + times other ps
-  joined other = times_taken ps (first_free ps) call other (omega (arith, h.0, h.1)) (free_is ps)
-
-  pub times_joined : times call (set ps (first_free ps) (Some call)) ≡ 1 + times call ps
-  times_joined = omega (arith, joined call, cond-true {A = ℕ} _ 1 0 (eq-eqb call call refl))
-
-  pub times_beside : (other : ℕ) → (other ≡ call → ⊥) → times other (set ps (first_free ps) (Some call)) ≡ times other ps
-  times_beside other d = omega (arith, joined other, cond-false {A = ℕ} _ 1 0 (ne_eqb call other (λ e. d (sym e))))
-
-pub kept_taken : (total : ℕ) (ps : List (Option ℕ)) (call : ℕ) → Kept total ps → call < call_count → first_free ps < total → Kept total (set ps (first_free ps) (Some call))
-kept_taken total ps call h c l = (
-  length-set ps (first_free ps) (Some call) ∙ h.0,
-  h.1,
-  (λ k m. get_or-set_other ps (first_free ps) k (Some call) None (λ e. omega arith) ∙ h.2 k m),
-  λ other m. times_beside total ps call h l other (λ e. omega arith) ∙ h.3 other m,
-)
+pub kept_new : (total : ℕ) → total ≤ most_places → Kept total (replicate most_places None)
+kept_new total l = record {
+  whole = refl;
+  few = l;
+  rest_free = ap (count_by is_some) (drop-replicate total most_places None) ∙ sum_by-replicate (λ p. one (is_some p)) (most_places - total) None ∙ (omega arith);
+  in_range = λ call h. refl;
+}

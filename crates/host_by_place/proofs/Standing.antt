@@ -1,17 +1,25 @@
--- The modes of calls by the places that they are on.
-use Rattle.std.proofs.Common.{◌≡◌, ℕ, ◌+◌, ◌<◌, ◌≤◌, Bool, true, false, cond, ◌&&◌, ltb, List, map, get_or, set, replicate, None, Option, sym, refl, ap, ◌∙◌, subst, ⊎_elim, arith}
-use Rattle.std.proofs.lemmas.List.{get_or_past, get_or-set_same, get_or-set_other}
-use Rattle.std.proofs.lemmas.Bool.{cases_eq, cases_lt, lt-ltb, le-ltb, ltb-true, ltb-false, cond-true, cond-false}
+-- The modes of calls by where they stand.
+use Rattle.std.specs.Prelude.{◌≡◌, ◌≢◌, ℕ, ◌+◌, ◌<◌, ◌≤◌, Bool, true, false, ◌&&◌, if◌then◌else◌, List, length, map, count_by, is_some, nat_lt, Some, None, Option, slice_index_or, slice_set, replicate, refl}
+use Rattle.std.proofs.Common.{sym, ap, ◌∙◌, subst, ⊎_elim, arith}
+use Rattle.std.proofs.lemmas.List.{get_or_past, get_or-set_same, get_or-set_other, length-map, length-set, map-set}
+use Rattle.std.proofs.lemmas.Bool.{cases_eq, cases_lt, false≢true}
 use Rattle.host.specs.Modes.{same_mode}
-use Rattle.host.specs.Meaning.{HostMeaning, call_count, most_places, mode_of, in_mode, can_join_port, can_join_circuit}
-use Rattle.host_by_place.specs.Places.{times, is_on, without, first_free, has_free, taking, Apart, mode_among, listing, listing_length}
-use Rattle.host_by_place.specs.ByPlace.{by_place}
-use Rattle.host_by_place.specs.declared.table.PlaceTable.{PlaceTable}
+use Rattle.host.specs.Places.{mode_on}
+use Rattle.host.specs.Meaning.{HostMeaning, call_count, can_join, in_mode, mode_of}
 use Rattle.host.specs.declared.mode.Mode.{Mode}
+use Rattle.host.specs.declared.mode.Mode.TheVariants.{NotHeld, Held}
 use Rattle.host.specs.declared.order.Order.{Order}
-use Rattle.host.specs.declared.mode.Mode.TheVariants.{NotHeld, Held, OnPort, OnCircuit}
-use Rattle.host_by_place.proofs.Listed.{listing_at, listing_set, in_mode_sum, sum_same}
-use Rattle.host_by_place.proofs.Seats.{times_left, times_kept, times_joined, times_beside, has_free_by_taken, taken, taken_sum}
+use Rattle.host.specs.declared.place.Place.{Place}
+use Rattle.host.specs.declared.place.Place.TheVariants.{Port, Circuit}
+use Rattle.host_by_place.specs.Places.{is_on, listing, listing_length, times}
+use Rattle.host_by_place.specs.AllPlaces.{AllFree, Apart, Takes, has_free_on, of_place, place_of}
+use Rattle.host_by_place.specs.ByPlace.{by_place, mode_at, standing}
+use Rattle.host_by_place.specs.declared.all_places.AllPlaces.{AllPlaces}
+use Rattle.host_by_place.specs.declared.table.Call.{Call}
+use Rattle.host_by_place.specs.declared.table.PlaceTable.{PlaceTable}
+use Rattle.host_by_place.proofs.Listed.{listing_at, listing_set, in_mode_sum, sum}
+use Rattle.host_by_place.proofs.Moved.{Moves, moved_beside, moved_to, on_circuits, on_ports, place_by, place_of-times, refused}
+use Rattle.host_by_place.proofs.Seats.{has_free-count, one, taken_sum}
 
 abbrev meaning : List Mode → List (Option Order) → ℕ → ℕ → HostMeaning
 meaning ms os p c = record { modes = ms; orders = os; ports = p; circuits = c }
@@ -20,178 +28,145 @@ meaning ms os p c = record { modes = ms; orders = os; ports = p; circuits = c }
 pub alike : {ms ns : List Mode} {os qs : List (Option Order)} {p q c d : ℕ} → ms ≡ ns → os ≡ qs → p ≡ q → c ≡ d → meaning ms os p c ≡ meaning ns qs q d
 alike m o p c = λ i. meaning (m i) (o i) (p i) (c i)
 
--- the mode of a call that is on a port, on a circuit, or held on neither, or not
-abbrev pick : Bool → Bool → Bool → Mode
-pick port circuit held = cond port OnPort (cond circuit OnCircuit (cond held Held NotHeld))
+-- a call whose mode is held is marked as held
+held_at : (place : Option Place) (held : Bool) → same_mode (mode_at place held) Held ≡ true → held ≡ true
+held_at None true e = refl
+held_at None false e = absurd (false≢true e)
+held_at (Some Port) held e = absurd (false≢true e)
+held_at (Some Circuit) held e = absurd (false≢true e)
 
-pick_held : (a b c : Bool) → same_mode (pick a b c) Held ≡ true → (a ≡ false) × (b ≡ false) × (c ≡ true)
-pick_held true b c e = let z : ◌≡◌ {A = ℕ} 0 1 = cc in absurd (omega arith)
-pick_held false true c e = let z : ◌≡◌ {A = ℕ} 0 1 = cc in absurd (omega arith)
-pick_held false false true e = (refl, refl, refl)
-pick_held false false false e = let z : ◌≡◌ {A = ℕ} 0 1 = cc in absurd (omega arith)
-
-pick_port : (a b c : Bool) → same_mode (pick a b c) OnPort ≡ a
-pick_port true b c = refl
-pick_port false true c = refl
-pick_port false false true = refl
-pick_port false false false = refl
-
-pick_circuit : (a b c : Bool) → (a ≡ true → b ≡ false) → same_mode (pick a b c) OnCircuit ≡ b
-pick_circuit true b c h = sym (h refl)
-pick_circuit false true c h = refl
-pick_circuit false false true h = refl
-pick_circuit false false false h = refl
-
-off : (call : ℕ) (ps : List (Option ℕ)) → times call ps ≡ 0 → is_on call ps ≡ false
-off call ps e = le-ltb _ _ (omega (arith, e))
-
-on : (call : ℕ) (ps : List (Option ℕ)) → times call ps ≡ 1 → is_on call ps ≡ true
-on call ps e = lt-ltb _ _ (omega (arith, e))
-
--- a call on one place at most counts once where it is on one
-counts_once : (call : ℕ) (ps : List (Option ℕ)) → times call ps ≤ 1 → cond {A = ℕ} (is_on call ps) 1 0 ≡ times call ps
-counts_once call ps l =
+-- how often a call counts as one on such a place
+counted : (place : Place) (m n : ℕ) (held : Bool) → m + n ≤ 1 → one (same_mode (mode_at (place_by m n) held) (mode_on place)) ≡ of_place place m n
+counted place m n held l =
     ⊎_elim
-    (λ h. cond-true {A = ℕ} _ 1 0 (lt-ltb _ _ h) ∙ (omega arith))
-    (λ h. cond-false {A = ℕ} _ 1 0 (le-ltb _ _ h) ∙ (omega arith))
-    (cases_lt 0 (times call ps))
+    (λ (p : m ≡ 0). ⊎_elim (λ (q : n ≡ 0). rw (p, q) (nowhere place held)) (λ d. let q : n ≡ 1 = omega arith in rw (p, q) (circuit place held)) (cases_eq n 0))
+    (λ d.
+    let p : m ≡ 1 = omega arith in
+    let q : n ≡ 0 = omega arith in
+    rw (p, q) (port place held))
+    (cases_eq m 0)
+  where
+    nowhere : (place : Place) (held : Bool) → one (same_mode (mode_at None held) (mode_on place)) ≡ of_place place 0 0
+    nowhere Port true = refl
+    nowhere Port false = refl
+    nowhere Circuit true = refl
+    nowhere Circuit false = refl
 
-at_most_one : (b : Bool) → cond {A = ℕ} b 1 0 ≤ 1
-at_most_one true = omega arith
-at_most_one false = omega arith
+    port : (place : Place) (held : Bool) → one (same_mode (mode_at (Some Port) held) (mode_on place)) ≡ of_place place 1 0
+    port Port held = refl
+    port Circuit held = refl
+
+    circuit : (place : Place) (held : Bool) → one (same_mode (mode_at (Some Circuit) held) (mode_on place)) ≡ of_place place 0 1
+    circuit Port held = refl
+    circuit Circuit held = refl
 
 -- no call on a place, none held
-pub none_stands : (ports circuits : List (Option ℕ)) → ports ≡ replicate most_places None → circuits ≡ replicate most_places None → listing call_count (mode_among ports circuits (replicate call_count false)) ≡ replicate call_count NotHeld
+pub none_stands : (places : AllPlaces) → AllFree places → listing call_count (λ call. mode_at (place_of places call) (slice_index_or (replicate call_count false) call false)) ≡ replicate call_count NotHeld
 unfolding listing
-none_stands ports circuits p c = rw (p, c) refl
+none_stands places free = rw (free.ports, free.circuits) refl
 
 module _ (t : PlaceTable) where
-  abbrev ports : List (Option ℕ)
-  ports = t.ports.calls
+  abbrev flags : List Bool
+  flags = map (λ c. c.held) t.calls
 
-  abbrev circuits : List (Option ℕ)
-  circuits = t.circuits.calls
-
-  abbrev at : ℕ → Mode
-  at = mode_among ports circuits t.held
+  flags_long : length flags ≡ call_count
+  flags_long = length-map t.calls (λ c. c.held) ∙ t.whole
 
   -- the mode that the list of all modes has for a call, in range or not
-  pub mode_at : (call : ℕ) → mode_of (by_place t) call ≡ at call
-  mode_at call =
+  pub listed : (call : ℕ) → mode_of (by_place t) call ≡ standing t call
+  listed call =
       ⊎_elim
-      (λ b. listing_at call_count at call NotHeld b)
+      (λ b. listing_at call_count (standing t) call NotHeld b)
       (λ b.
-      let h : get_or t.held call false ≡ false = get_or_past t.held call false (omega (arith, t.whole.0)) in
-      get_or_past (listing call_count at) call NotHeld (omega (arith, listing_length call_count at)) ∙ sym (rw (off call ports (t.ports.kept.3 call b), off call circuits (t.circuits.kept.3 call b), h) refl))
+      let nowhere = place_of-times t.places call ∙ (λ j. place_by (t.places.ports.kept.in_range call b j) (t.places.circuits.kept.in_range call b j)) in
+      let idle = get_or_past flags call false (omega (arith, flags_long)) in
+      get_or_past (listing call_count (standing t)) call NotHeld (omega (arith, listing_length call_count (standing t))) ∙ (λ j. mode_at (sym nowhere j) (sym idle j)))
       (cases_lt call call_count)
 
-  -- the calls on ports are as many as the ports that are taken
-  on_ports : in_mode OnPort (listing call_count at) ≡ taken ports
-  on_ports =
-      in_mode_sum OnPort call_count at
-      ∙ sum_same call_count _ (λ call. times call ports)
-      (λ call. ap (λ b. cond {A = ℕ} b 1 0) (pick_port (is_on call ports) (is_on call circuits) (get_or t.held call false)) ∙ counts_once call ports (omega (arith, t.apart call)))
-      ∙ taken_sum call_count ports t.ports.kept.3
+  -- the calls on such places are as many as the places that have a call
+  on_places : (place : Place) → in_mode (mode_on place) (listing call_count (standing t)) ≡ of_place place (count_by is_some t.places.ports.calls) (count_by is_some t.places.circuits.calls)
+  on_places place = in_mode_sum (mode_on place) call_count (standing t) ∙ (λ j. sum call_count (λ call. each call j)) ∙ taken place
+    where
+      each : (call : ℕ) → one (same_mode (standing t call) (mode_on place)) ≡ of_place place (times call t.places.ports.calls) (times call t.places.circuits.calls)
+      each call =
+          (λ j. one (same_mode (mode_at (place_of-times t.places call j) (slice_index_or flags call false)) (mode_on place)))
+          ∙ counted place (times call t.places.ports.calls) (times call t.places.circuits.calls) (slice_index_or flags call false) (omega (arith, t.apart call))
 
-  on_circuits : in_mode OnCircuit (listing call_count at) ≡ taken circuits
-  on_circuits =
-      in_mode_sum OnCircuit call_count at
-      ∙ sum_same call_count _ (λ call. times call circuits)
-      (λ call.
-      ap (λ b. cond {A = ℕ} b 1 0) (pick_circuit (is_on call ports) (is_on call circuits) (get_or t.held call false) (λ e. off call circuits (omega (arith, t.apart call, ltb-true _ _ e))))
-      ∙ counts_once call circuits (omega (arith, t.apart call)))
-      ∙ taken_sum call_count circuits t.circuits.kept.3
-
-  -- one call moves, every other stands where it stood
-  module _ (call : ℕ) (ports' circuits' : List (Option ℕ)) (held' : List Bool) (beside : (j : ℕ) → (j ≡ call → ⊥) → (times j ports' ≡ times j ports) × (times j circuits' ≡ times j circuits) × (get_or held' j false ≡ get_or t.held j false)) where
-    moved_modes : (m : Mode) → (call < call_count → mode_among ports' circuits' held' call ≡ m) → listing call_count (mode_among ports' circuits' held') ≡ set (listing call_count at) call m
-    moved_modes m here = listing_set call_count at (mode_among ports' circuits' held') call m here (λ j d. let s = beside j d in rw (s.0, s.1, s.2) refl)
-
-    moved_apart : times call ports' + times call circuits' + cond (get_or held' call false) 1 0 ≤ 1 → Apart ports' circuits' held'
-    moved_apart once j =
-        ⊎_elim
-        (λ e. subst (λ n. times n ports' + times n circuits' + cond (get_or held' n false) 1 0 ≤ 1) (sym e) once)
-        (λ d. let s = beside j d in rw (s.0, s.1, s.2) (t.apart j))
-        (cases_eq j call)
-
-  -- a call set aside: off its port or circuit, held or not
-  module _ (call : ℕ) (h : Bool) (ports' circuits' : List (Option ℕ)) (held' : List Bool) (p : ports' ≡ map (without call) ports) (c : circuits' ≡ map (without call) circuits) (k : held' ≡ set t.held call h) where
-    off_ports : times call ports' ≡ 0
-    off_ports = ap (times call) p ∙ times_left ports call
-
-    off_circuits : times call circuits' ≡ 0
-    off_circuits = ap (times call) c ∙ times_left circuits call
-
-    beside_aside : (j : ℕ) → (j ≡ call → ⊥) → (times j ports' ≡ times j ports) × (times j circuits' ≡ times j circuits) × (get_or held' j false ≡ get_or t.held j false)
-    beside_aside j d =
-        (ap (times j) p ∙ times_kept ports call j d, ap (times j) c ∙ times_kept circuits call j d, ap (λ hs. get_or hs j false) k ∙ get_or-set_other t.held call j h false d)
-
-    pub aside_modes : listing call_count (mode_among ports' circuits' held') ≡ set (listing call_count at) call (cond h Held NotHeld)
-    aside_modes =
-        moved_modes call ports' circuits' held' beside_aside (cond h Held NotHeld)
-        (λ b. rw (off call ports' off_ports, off call circuits' off_circuits, k, get_or-set_same t.held call h false (omega (arith, t.whole.0))) refl)
-
-    pub aside_apart : Apart ports' circuits' held'
-    aside_apart = moved_apart call ports' circuits' held' beside_aside (omega (arith, off_ports, off_circuits, at_most_one (get_or held' call false)))
+      taken : (place : Place) → sum call_count (λ call. of_place place (times call t.places.ports.calls) (times call t.places.circuits.calls)) ≡ of_place place (count_by is_some t.places.ports.calls) (count_by is_some t.places.circuits.calls)
+      taken Port = taken_sum call_count t.places.ports.calls t.places.ports.kept.in_range
+      taken Circuit = taken_sum call_count t.places.circuits.calls t.places.circuits.kept.in_range
 
   -- a call that is held
   module _ (call : ℕ) (e : true ≡ same_mode (mode_of (by_place t) call) Held) where
-    apart : (times call ports ≡ 0) × (times call circuits ≡ 0) × (get_or t.held call false ≡ true)
-    apart =
-        let h = pick_held (is_on call ports) (is_on call circuits) (get_or t.held call false) (ap (λ m. same_mode m Held) (sym (mode_at call)) ∙ sym e) in
-        (omega (arith, ltb-false _ _ h.0), omega (arith, ltb-false _ _ h.1), h.2)
+    marked : slice_index_or flags call false ≡ true
+    marked = held_at _ _ (ap (λ m. same_mode m Held) (sym (listed call)) ∙ sym e)
 
-    pub held_below : call < call_count
-    held_below =
+    pub held_nowhere : (times call t.places.ports.calls ≡ 0) × (times call t.places.circuits.calls ≡ 0)
+    held_nowhere = (omega (arith, t.apart call, ap one marked), omega (arith, t.apart call, ap one marked))
+
+    pub held_in_range : call < call_count
+    held_in_range =
         ⊎_elim
         (λ b. b)
-        (λ b. let f : true ≡ false = sym apart.2 ∙ get_or_past t.held call false (omega (arith, t.whole.0)) in let z : ◌≡◌ {A = ℕ} 0 1 = cc in absurd (omega arith))
+        (λ b. absurd (false≢true (sym (get_or_past flags call false (omega (arith, flags_long))) ∙ marked)))
         (cases_lt call call_count)
 
-    -- it can join where the search finds a free place
-    pub can_port : {free : Bool} → free ≡ has_free t.ports.total ports → free ≡ can_join_port (by_place t) call
-    can_port f = f ∙ has_free_by_taken ports t.ports.total t.ports.kept.2 ∙ ap (λ n. ltb n t.ports.total) (sym on_ports) ∙ ap (λ b. b && ltb (in_mode OnPort (listing call_count at)) t.ports.total) e
+    -- it can join where such a place is free
+    pub joins : (place : Place) {free : Bool} → free ≡ has_free_on t.places place → free ≡ can_join (by_place t) call place
+    joins Port f =
+        f ∙ has_free-count t.places.ports.total t.places.ports.calls t.places.ports.kept
+        ∙ ap (λ n. nat_lt n t.places.ports.total) (sym (on_places Port))
+        ∙ ap (λ b. b && nat_lt (in_mode (mode_on Port) (listing call_count (standing t))) t.places.ports.total) e
+    joins Circuit f =
+        f ∙ has_free-count t.places.circuits.total t.places.circuits.calls t.places.circuits.kept
+        ∙ ap (λ n. nat_lt n t.places.circuits.total) (sym (on_places Circuit))
+        ∙ ap (λ b. b && nat_lt (in_mode (mode_on Circuit) (listing call_count (standing t))) t.places.circuits.total) e
 
-    pub can_circuit : {free : Bool} → free ≡ has_free t.circuits.total circuits → free ≡ can_join_circuit (by_place t) call
-    can_circuit f = f ∙ has_free_by_taken circuits t.circuits.total t.circuits.kept.2 ∙ ap (λ n. ltb n t.circuits.total) (sym on_circuits) ∙ ap (λ b. b && ltb (in_mode OnCircuit (listing call_count at)) t.circuits.total) e
+  -- a call moves, and its entry is written anew
+  module _ (call : ℕ) (to : Option Place) (entry : Call) (places' : AllPlaces) (calls' : List Call) (m : Moves t.places places' call to) (p : calls' ≡ slice_set t.calls call entry) where
+    flags_set : map (λ c. c.held) calls' ≡ slice_set flags call entry.held
+    flags_set = ap (map (λ c. c.held)) p ∙ map-set (λ c. c.held) t.calls call entry
 
-    module _ (held' : List Bool) (k : held' ≡ set t.held call false) where
-      freed : cond {A = ℕ} (get_or held' call false) 1 0 ≡ 0
-      freed = cond-false {A = ℕ} _ 1 0 (ap (λ hs. get_or hs call false) k ∙ get_or-set_same t.held call false false (omega (arith, t.whole.0, held_below)))
+    here : call < call_count → slice_index_or (map (λ c. c.held) calls') call false ≡ entry.held
+    here b = ap (λ hs. slice_index_or hs call false) flags_set ∙ get_or-set_same flags call entry.held false (omega (arith, flags_long))
 
-      others : (j : ℕ) → (j ≡ call → ⊥) → get_or held' j false ≡ get_or t.held j false
-      others j d = ap (λ hs. get_or hs j false) k ∙ get_or-set_other t.held call j false false d
+    beside : (other : ℕ) → other ≢ call → slice_index_or (map (λ c. c.held) calls') other false ≡ slice_index_or flags other false
+    beside other d = ap (λ hs. slice_index_or hs other false) flags_set ∙ get_or-set_other flags call other entry.held false d
 
-      -- it takes a port
-      module _ (ports' : List (Option ℕ)) (f : true ≡ has_free t.ports.total ports) (p : ports' ≡ taking true call ports) where
-        below_ports : first_free ports < t.ports.total
-        below_ports = ltb-true _ _ (sym f)
+    pub moved : meaning (listing call_count (λ c. mode_at (place_of places' c) (slice_index_or (map (λ c. c.held) calls') c false))) (map (λ c. c.order) calls') places'.ports.total places'.circuits.total ≡ meaning (slice_set (listing call_count (standing t)) call (mode_at to entry.held)) (slice_set (map (λ c. c.order) t.calls) call entry.order) t.places.ports.total t.places.circuits.total
+    moved =
+        alike
+        (listing_set call_count (standing t) _ call (mode_at to entry.held) (λ b. λ j. mode_at (moved_to t.places places' call to m j) (here b j)) (λ other d. λ j. mode_at (moved_beside t.places places' call to m other d j) (beside other d j)))
+        (ap (map (λ c. c.order)) p ∙ map-set (λ c. c.order) t.calls call entry)
+        m.totals.ports m.totals.circuits
 
-        on_port : times call ports' ≡ 1
-        on_port = omega (arith, ap (times call) p, times_joined t.ports.total ports call t.ports.kept below_ports, apart.0)
+    pub moved_long : length calls' ≡ call_count
+    moved_long = ap length p ∙ length-set t.calls call entry ∙ t.whole
 
-        beside_port : (j : ℕ) → (j ≡ call → ⊥) → (times j ports' ≡ times j ports) × (times j circuits ≡ times j circuits) × (get_or held' j false ≡ get_or t.held j false)
-        beside_port j d = (ap (times j) p ∙ times_beside t.ports.total ports call t.ports.kept below_ports j d, refl, others j d)
+    pub moved_apart : on_ports to + on_circuits to + one entry.held ≤ 1 → Apart places' (map (λ c. c.held) calls')
+    moved_apart few other =
+        ⊎_elim
+        (λ s. subst (λ n. times n places'.ports.calls + times n places'.circuits.calls + one (slice_index_or (map (λ c. c.held) calls') n false) ≤ 1) (sym s) (omega (arith, m.ports, m.circuits, few, marked_at)))
+        (λ d. omega (arith, t.apart other, m.beside_ports other d, m.beside_circuits other d, ap one (beside other d)))
+        (cases_eq other call)
+      where
+        marked_at : one (slice_index_or (map (λ c. c.held) calls') call false) ≤ one entry.held
+        marked_at =
+            ⊎_elim
+            (λ b. omega (arith, ap one (here b)))
+            (λ b. omega (arith, ap one (get_or_past (map (λ c. c.held) calls') call false (omega (arith, length-map calls' (λ c. c.held), moved_long)))))
+            (cases_lt call call_count)
 
-        pub port_modes : listing call_count (mode_among ports' circuits held') ≡ set (listing call_count at) call OnPort
-        port_modes = moved_modes call ports' circuits held' beside_port OnPort (λ b. cond-true _ _ _ (on call ports' on_port))
+  -- a call that found no such place free
+  module _ (call : ℕ) (place : Place) (places' : AllPlaces) (f : false ≡ has_free_on t.places place) (k : Takes t.places places' call place) where
+    same : (places'.ports.calls ≡ t.places.ports.calls) × (places'.circuits.calls ≡ t.places.circuits.calls)
+    same = refused t.places places' call place f k
 
-        pub port_apart : Apart ports' circuits held'
-        port_apart = moved_apart call ports' circuits held' beside_port (omega (arith, on_port, apart.1, freed))
+    pub stays : meaning (listing call_count (λ c. mode_at (place_of places' c) (slice_index_or flags c false))) (map (λ c. c.order) t.calls) places'.ports.total places'.circuits.total ≡ by_place t
+    stays =
+        alike
+        (λ j. listing call_count (λ c. mode_at (if is_on c (same.0 j) then Some Port else (if is_on c (same.1 j) then Some Circuit else None)) (slice_index_or flags c false)))
+        refl k.totals.ports k.totals.circuits
 
-      -- it takes a circuit
-      module _ (circuits' : List (Option ℕ)) (f : true ≡ has_free t.circuits.total circuits) (p : circuits' ≡ taking true call circuits) where
-        below_circuits : first_free circuits < t.circuits.total
-        below_circuits = ltb-true _ _ (sym f)
-
-        on_circuit : times call circuits' ≡ 1
-        on_circuit = omega (arith, ap (times call) p, times_joined t.circuits.total circuits call t.circuits.kept below_circuits, apart.1)
-
-        beside_circuit : (j : ℕ) → (j ≡ call → ⊥) → (times j ports ≡ times j ports) × (times j circuits' ≡ times j circuits) × (get_or held' j false ≡ get_or t.held j false)
-        beside_circuit j d = (refl, ap (times j) p ∙ times_beside t.circuits.total circuits call t.circuits.kept below_circuits j d, others j d)
-
-        pub circuit_modes : listing call_count (mode_among ports circuits' held') ≡ set (listing call_count at) call OnCircuit
-        circuit_modes = moved_modes call ports circuits' held' beside_circuit OnCircuit (λ b. cond-false _ _ _ (off call ports apart.0) ∙ cond-true _ _ _ (on call circuits' on_circuit))
-
-        pub circuit_apart : Apart ports circuits' held'
-        circuit_apart = moved_apart call ports circuits' held' beside_circuit (omega (arith, on_circuit, apart.0, freed))
+    pub stays_apart : Apart places' flags
+    stays_apart other = omega (arith, t.apart other, ap (times other) same.0, ap (times other) same.1)

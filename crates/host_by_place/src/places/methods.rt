@@ -1,54 +1,16 @@
 //! Taking a place and giving it back.
-ghost use Rattle.std.specs.Prelude.{◌≡◌, ◌<◌, min, true, false, map, replicate, None as Free, MatchOption};
+ghost use Rattle.std.specs.Prelude.{◌≡◌, ◌<◌, min, map, replicate, None as Free};
 ghost use Rattle.host.specs.Meaning.{call_count, most_places};
-ghost use Rattle.host_by_place.specs.Places.{first_free, has_call, has_free, is_on, taking, without};
+ghost use Rattle.host_by_place.specs.Places.{free_place, has_free, is_on, taking, without};
 
 use super::Places;
 use host::MOST_PLACES;
 
-fn has_call(place: Option<u8>, call: u8) -> bool
-    ensures { result ≡ has_call call place }
-{
-    match place {
-        Some(other) => other == call,
-        None => false,
-    }
-}
-
-fn vacate(place: Option<u8>, call: u8) -> Option<u8>
+// The place, which the call has left if it was on it.
+fn vacated(place: Option<u8>, call: u8) -> Option<u8>
     ensures { result ≡ without call place }
 {
-    if has_call(place, call) { None } else { place }
-}
-
-fn vacate_all(places: &mut [Option<u8>], call: u8)
-    ensures { places.new ≡ map (without call) places.old }
-{
-    for k in 0..places.len() {
-        places[k] = vacate(places[k], call);
-    }
-}
-
-fn is_on(places: &[Option<u8>], call: u8) -> bool
-    ensures { result ≡ is_on call places.now }
-{
-    for place in places {
-        if has_call(*place, call) {
-            return true;
-        }
-    }
-    false
-}
-
-fn first_free(places: &[Option<u8>]) -> usize
-    ensures { result ≡ first_free places.now }
-{
-    for (k, place) in places.iter().enumerate() {
-        if place.is_none() {
-            return k;
-        }
-    }
-    places.len()
+    if place == Some(call) { None } else { place }
 }
 
 impl Places {
@@ -67,7 +29,7 @@ impl Places {
     pub(crate) fn has(&self, call: u8) -> bool
         ensures { result ≡ is_on call self.now.calls }
     {
-        is_on(&self.calls, call)
+        self.calls.contains(&Some(call))
     }
 
     /// The call leaves its place, if it is on one.
@@ -75,26 +37,24 @@ impl Places {
         ensures calls { self.new.calls ≡ map (without call) self.old.calls }
         ensures total { self.new.total ≡ self.old.total }
     {
-        vacate_all(&mut self.calls, call);
+        self.calls = self.calls.map(|place| vacated(place, call));
     }
 
-    // The first place with no call, if there is one.
+    // The first free place, if there is one.
     fn free_place(&self) -> Option<usize>
-        ensures { MatchOption result (has_free self.now.total self.now.calls ≡ false) (λ k. (has_free self.now.total self.now.calls ≡ true) × (k ≡ first_free self.now.calls)) }
+        ensures { result ≡ free_place self.now.total self.now.calls }
     {
-        let k = first_free(&self.calls);
-        if k < self.total as usize {
-            Some(k)
-        } else {
-            None
-        }
+        self.calls
+            .iter()
+            .take(usize::from(self.total))
+            .position(|place| place.is_none())
     }
 
     /// The call takes the first free place; false where there is none.
     pub(crate) fn take(&mut self, call: u8) -> bool
         requires { call < call_count }
         ensures said { result ≡ has_free self.old.total self.old.calls }
-        ensures calls { self.new.calls ≡ taking result call self.old.calls }
+        ensures calls { self.new.calls ≡ taking call self.old.total self.old.calls }
         ensures total { self.new.total ≡ self.old.total }
     {
         let Some(place) = self.free_place() else {

@@ -3,4 +3,4 @@ use Rattle.host_by_place.proofs.Standing.{alike, none_stands}
 use Rattle.host_by_place.proofs.table.PlaceTable.over.Goals as goal
 
 pub returns : goal.returns
-returns c = alike (none_stands c.args.ports.calls c.args.circuits.calls c.requires.0 c.requires.1) refl refl refl
+returns c = alike (none_stands c.args.places c.requires) refl refl refl

@@ -4,5 +4,5 @@ use Rattle.host_by_place.proofs.table.methods.PlaceTableHost.clear.Goals as goal
 
 pub returns : goal.returns
 returns c =
-    let x = c.args.self.now in
-    c.new.ensures ∙ alike refl refl (omega (arith, x.ports.kept.1)) (omega (arith, x.circuits.kept.1))
+    let x = c.args.self.now.places in
+    c.new.ensures ∙ alike refl refl (omega (arith, x.ports.kept.few)) (omega (arith, x.circuits.kept.few))

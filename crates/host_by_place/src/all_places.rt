@@ -1,0 +1,11 @@
+//! All the places of a host: its ports and its circuits.
+use crate::places::Places;
+
+mod methods;
+
+/// The ports of a host and its circuits.
+#[derive(Drop)]
+pub(crate) struct AllPlaces {
+    pub(crate) ports: Places,
+    pub(crate) circuits: Places,
+}
