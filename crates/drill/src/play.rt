@@ -2,7 +2,7 @@
 ghost use Rattle.std.specs.Prelude.{◌≡◌};
 ghost use Rattle.drill.specs.Steps.{clock_after, host_after, is_done};
 
-use crate::step::{CIRCUIT_TIME, HELD_TIME, PORT_TIME, Step};
+use crate::step::{HELD_TIME, Step, place_time};
 use clock::Clock;
 use host::{Host, Order};
 
@@ -18,17 +18,10 @@ pub(crate) fn take_step<H: Host, C: Clock>(host: &mut H, clock: &mut C, step: St
             clock.set(call, HELD_TIME);
             true
         }
-        Step::JoinPort(call) => {
-            let joined = host.join_port(call, Order::Resource);
+        Step::Join(call, place) => {
+            let joined = host.join(call, place, Order::Resource);
             if joined {
-                clock.set(call, PORT_TIME);
-            }
-            joined
-        }
-        Step::JoinCircuit(call) => {
-            let joined = host.join_circuit(call, Order::Resource);
-            if joined {
-                clock.set(call, CIRCUIT_TIME);
+                clock.set(call, place_time(place));
             }
             joined
         }

@@ -12,11 +12,10 @@ fn write_call<H: Host, C: Clock>(
     clock: &C,
     call: u8,
 ) -> Result<(), AllocError> {
-    let mode = host.mode(call).name();
-    write!(text, " {mode}, ")?;
+    let mode = host.mode(call);
     match clock.left(call) {
-        Some(ticks) => writeln!(text, "{ticks} ticks left"),
-        None => writeln!(text, "timer stopped"),
+        Some(ticks) => writeln!(text, " {mode}, {ticks} ticks left"),
+        None => writeln!(text, " {mode}, timer stopped"),
     }
 }
 
@@ -29,17 +28,6 @@ fn write_running<C: Clock>(text: &mut String, clock: &C) -> Result<(), AllocErro
     writeln!(text)
 }
 
-fn write_step(text: &mut String, step: Step, done: bool) -> Result<(), AllocError> {
-    let answer = if done { "yes" } else { "no" };
-    match step {
-        Step::Hold(call) => write!(text, "hold call {call}:"),
-        Step::JoinPort(call) => write!(text, "put call {call} on a port: {answer};"),
-        Step::JoinCircuit(call) => write!(text, "put call {call} on a circuit: {answer};"),
-        Step::LetGo(call) => write!(text, "let call {call} go:"),
-        Step::Tick => write!(text, "tick:"),
-    }
-}
-
 /// Plays the script and says in words what each step did.
 pub(crate) fn transcript<H: Host + Drop, C: Clock + Drop>(
     heap: Global,
@@ -49,7 +37,11 @@ pub(crate) fn transcript<H: Host + Drop, C: Clock + Drop>(
     let mut text = String::new(heap);
     for step in SCRIPT {
         let done = take_step(&mut host, &mut clock, step);
-        write_step(&mut text, step, done)?;
+        write!(text, "{step}:")?;
+        if let Step::Join(..) = step {
+            let answer = if done { "yes" } else { "no" };
+            write!(text, " {answer};")?;
+        }
         match step.call() {
             Some(call) => write_call(&mut text, &host, &clock, call)?,
             None => write_running(&mut text, &clock)?,
