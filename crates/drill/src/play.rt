@@ -6,6 +6,7 @@ use crate::step::{HELD_TIME, Step, place_time};
 use clock::Clock;
 use host::{Host, Order};
 
+// Two parameters and no struct of both: neither knows of the other, and this is the form for any host and any clock.
 /// Does a step, and says whether it was done: a join may be refused.
 pub(crate) fn take_step<H: Host, C: Clock>(host: &mut H, clock: &mut C, step: Step) -> bool
     ensures said { result ≡ is_done (H.hosted host.old) step }

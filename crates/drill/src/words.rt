@@ -6,6 +6,7 @@ use host::{CALLS, Host};
 use std::alloc::{AllocError, Global};
 use std::fmt::Write;
 
+// Functions and no Display, since what is said is of a host and a clock together, neither of which is the drill's.
 fn write_call<H: Host, C: Clock>(
     text: &mut String,
     host: &H,

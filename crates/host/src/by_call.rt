@@ -19,6 +19,7 @@ const IDLE: Call = Call {
     order: None,
 };
 
+// An array, since `new` cannot fail: a host lives in its caller's memory and asks for none.
 /// A host that keeps the mode and the last order of each call.
 #[derive(Drop)]
 pub struct CallTable {

@@ -23,6 +23,7 @@ pub enum Order {
     TemporaryConnection(Digits),
 }
 
+// Kind, cause and address stay methods: each is one field of an order as the format has it, and no conversion of it.
 impl Order {
     /// The number of the order's kind.
     pub fn kind(self) -> u8

@@ -3,6 +3,7 @@ use crate::places::Places;
 
 mod methods;
 
+// Two fields and no list by kind of place, so that each has its name.
 /// The ports of a host and its circuits.
 #[derive(Drop)]
 pub(crate) struct AllPlaces {

@@ -5,6 +5,7 @@ use host::MOST_PLACES;
 
 mod methods;
 
+// An array and not a list with a length: the total is a limit, each place keeps its number, and `new` cannot fail.
 /// So many places, each free or with a call on it; those from the total on stay free.
 #[derive(Drop)]
 pub(crate) struct Places {

@@ -77,6 +77,7 @@ impl Host for CallTable {
 
     #[tactic(auto, using(crate::proofs::Fields::fields))]
     fn hold(&mut self, call: u8) {
+        // By index and not by `get_mut`, after which a proof knows the table's length and none of its calls.
         let call = usize::from(call);
         if call < CALLS {
             self.calls[call].mode = Mode::Held;
