@@ -75,8 +75,8 @@ free-count (None ∷ ps) = sym (lt-ltb _ _ (omega (arith, sum_by-cons (λ p. one
 free-count (Some c ∷ ps) = free-count ps ∙ lt_suc _ _ ∙ ap (λ n. nat_lt n (suc (length ps))) (sym (sum_by-cons (λ p. one (is_some p)) (Some c) ps))
 
 -- the search for a place that passes finds one where there is one
-pub position-any : {X : Type 0} (p : X → Bool) (xs : List X) → is_some (position p xs) ≡ list_any p xs
-position-any p xs = found (nat_lt (position_or_len p xs) (length xs)) (position_or_len p xs) ∙ within p xs
+pub any_position : {X : Type 0} (p : X → Bool) (xs : List X) → list_any p xs ≡ is_some (position p xs)
+any_position p xs = sym (found (nat_lt (position_or_len p xs) (length xs)) (position_or_len p xs) ∙ within p xs)
   where
     found : (b : Bool) (n : ℕ) → is_some (if b then Some n else None) ≡ b
     found true n = refl
@@ -156,7 +156,7 @@ module _ (total : ℕ) (ps : List (Option ℕ)) (h : Kept total ps) where
 
   -- where a place is free, the call is on one more; each other call is on as many as before
   pub times_taking : (call other : ℕ) → times other (taking call total ps) ≡ (if has_free total ps then one (nat_eq call other) else 0) + times other ps
-  times_taking call other = (λ j. go (free_place total ps) refl j) ∙ (λ j. (if position-any is_none (take total ps) j then one (nat_eq call other) else 0) + times other ps)
+  times_taking call other = (λ j. go (free_place total ps) refl j) ∙ (λ j. (if sym (any_position is_none (take total ps)) j then one (nat_eq call other) else 0) + times other ps)
     where
       go : (o : Option ℕ) → free_place total ps ≡ o → times other (option_map_or (λ k. slice_set ps k (Some call)) o ps) ≡ (if is_some o then one (nat_eq call other) else 0) + times other ps
       go None e = omega arith
@@ -164,7 +164,7 @@ module _ (total : ℕ) (ps : List (Option ℕ)) (h : Kept total ps) where
 
 -- where none is free, the call changes nothing
 pub taking_none : (total : ℕ) (ps : List (Option ℕ)) (call : ℕ) → has_free total ps ≡ false → taking call total ps ≡ ps
-taking_none total ps call f = go (free_place total ps) (position-any is_none (take total ps) ∙ f)
+taking_none total ps call f = go (free_place total ps) (sym (any_position is_none (take total ps)) ∙ f)
   where
     go : (o : Option ℕ) → is_some o ≡ false → option_map_or (λ k. slice_set ps k (Some call)) o ps ≡ ps
     go None e = refl

@@ -15,6 +15,7 @@ fn vacated(place: Option<u8>, call: u8) -> Option<u8>
 
 impl Places {
     /// So many free places, 64 where more are named.
+    #[tactic(auto, using(crate::proofs::Seats::kept_new))]
     pub(crate) fn new(total: u8) -> Self
         ensures calls { result.calls ≡ replicate most_places Free }
         ensures total { result.total ≡ min total most_places }
@@ -51,6 +52,7 @@ impl Places {
     }
 
     /// The call takes the first free place; false where there is none.
+    #[tactic(auto, using(crate::proofs::Seats::any_position))]
     pub(crate) fn take(&mut self, call: u8) -> bool
         requires { call < call_count }
         ensures said { result ≡ has_free self.old.total self.old.calls }
