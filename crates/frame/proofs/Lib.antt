@@ -1,6 +1,5 @@
-pub mod Short
+pub mod Points
 pub mod Spelling
-pub mod Values
+pub mod Put
 pub mod Same
 pub mod Ties
-pub mod Put

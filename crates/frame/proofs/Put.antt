@@ -1,21 +1,12 @@
 -- What the writer leaves in the buffer.
-use Rattle.std.proofs.Common.{◌≡◌, ℕ, suc, ◌+◌, ◌-◌, ◌*◌, ◌<◌, ◌≤◌, List, [], ◌∷◌, ◌++◌, length, get_or, take, drop, set, sym, ap, ◌∙◌, append_assoc, arith}
+use Rattle.std.proofs.Common.{◌≡◌, ℕ, ◌+◌, ◌*◌, ◌<◌, ◌≤◌, List, [], ◌∷◌, ◌++◌, length, get_or, take, drop, set, sym, ap, ◌∙◌, append_assoc, arith}
 use borrow.Rule.Slice.PartMut.{put_mid}
-use Rattle.std.proofs.lemmas.List.{take-append-drop, drop-append-le, drop-drop, drop_at, length-drop, length_push, length-take-le, set_at, take_all, take_more}
+use Rattle.std.proofs.lemmas.List.{take-append-drop, drop-append-le, drop-drop, drop_at, drop_more, length-drop, length_push, length-take-le, set_at, take_more}
 use Rattle.terms.specs.Points.{point_number}
-use Rattle.terms.proofs.Twos.{drop_two}
 use Rattle.frame.specs.Limits.{longest_argument, longest_frame}
-use Rattle.frame.specs.Items.{mode_number, item_bytes}
+use Rattle.frame.specs.Items.{mode_number, item_bytes, blank_item}
 use Rattle.frame.specs.declared.item.Item.{Item}
-use Rattle.frame.proofs.Spelling.{blank, item_bytes_push, length_item_bytes}
-
--- a count and as many bytes behind it
-pub count_put : (out ys ds bytes : List ℕ) → 1 ≤ length out → ys ≡ ds → ds ≡ bytes → put_mid 1 (1 + length ds - 1) (set out 0 (length ds)) ys ≡ length bytes ∷ (bytes ++ drop (1 + length ds) out)
-count_put [] ys ds bytes l y b = absurd (omega arith)
-count_put (x ∷ o) ys ds bytes l y b =
-    let less : 1 + length ds - 1 ≡ length ds = omega arith in
-    let more : suc (length ds) ≡ 1 + length ds = omega arith in
-    (λ j. length (b j) ∷ ((y ∙ b) j ++ drop (less j) o)) ∙ ap (λ k. length bytes ∷ (bytes ++ drop k (x ∷ o))) more
+use Rattle.frame.proofs.Spelling.{item_bytes_push, length_item_bytes}
 
 set_two : (p rest : List ℕ) (u v a b n : ℕ) → length p ≡ n → set (set (p ++ u ∷ v ∷ rest) n a) (n + 1) b ≡ (p ++ a ∷ b ∷ []) ++ rest
 set_two p rest u v a b n e =
@@ -23,18 +14,19 @@ set_two p rest u v a b n e =
     set_at (p ++ a ∷ []) v rest b (n + 1) (length_push p a ∙ ap (λ k. k + 1) e) ∙ append_assoc p (a ∷ []) (b ∷ rest) ∙
     sym (append_assoc p (a ∷ b ∷ []) rest)
 
--- one more item is written
-pub put_more : (xs : List Item) (was o : List ℕ) (i a b : ℕ) → i < length xs → 2 * i + 1 < length was → o ≡ item_bytes (take i xs) ++ drop (2 * i) was → a ≡ point_number (get_or xs i blank).point → b ≡ mode_number (get_or xs i blank).mode → set (set o (2 * i) a) (2 * i + 1) b ≡ item_bytes (take (i + 1) xs) ++ drop (2 * (i + 1)) was
-put_more xs was o i a b l h e p m =
-    let size : length (item_bytes (take i xs)) ≡ 2 * i = length_item_bytes (take i xs) ∙ ap (λ k. 2 * k) (length-take-le i xs (omega arith)) in
-    ap (λ l. set (set l (2 * i) a) (2 * i + 1) b) (e ∙ ap (λ l. item_bytes (take i xs) ++ l) (drop_two was i h)) ∙
-    set_two (item_bytes (take i xs)) (drop (2 * (i + 1)) was) _ _ a b (2 * i) size ∙
-    (λ j. (item_bytes (take i xs) ++ p j ∷ m j ∷ []) ++ drop (2 * (i + 1)) was) ∙
-    ap (λ l. l ++ drop (2 * (i + 1)) was) (sym (ap item_bytes (take_more xs i blank l) ∙ item_bytes_push (take i xs) (get_or xs i blank)))
+drop_two : (was : List ℕ) (n : ℕ) → n + 1 < length was → drop n was ≡ get_or was n 0 ∷ get_or was (n + 1) 0 ∷ drop (n + 2) was
+drop_two was n l =
+    let next : n + 1 + 1 ≡ n + 2 = omega arith in
+    drop_more was n 0 (omega arith) ∙ ap (λ t. get_or was n 0 ∷ t) (drop_more was (n + 1) 0 l ∙ ap (λ k. get_or was (n + 1) 0 ∷ drop k was) next)
 
-pub put_all : (xs : List Item) (was o : List ℕ) (i : ℕ) → i ≡ length xs → o ≡ item_bytes (take i xs) ++ drop (2 * i) was → o ≡ item_bytes xs ++ drop (2 * length xs) was
-put_all xs was o i n e =
-    e ∙ (λ j. item_bytes (take (n j) xs) ++ drop (2 * n j) was) ∙ ap (λ l. item_bytes l ++ drop (2 * length xs) was) (take_all (length xs) xs (omega arith))
+-- one more item is written
+pub put_more : (xs : List Item) (was o : List ℕ) (i n a b : ℕ) → i < length xs → n ≡ 2 * i → n + 1 < length was → o ≡ item_bytes (take i xs) ++ drop n was → a ≡ point_number (get_or xs i blank_item).point → b ≡ mode_number (get_or xs i blank_item).mode → set (set o n a) (n + 1) b ≡ item_bytes (take (i + 1) xs) ++ drop (n + 2) was
+put_more xs was o i n a b l two h e p m =
+    let size : length (item_bytes (take i xs)) ≡ n = length_item_bytes (take i xs) ∙ ap (λ k. 2 * k) (length-take-le i xs (omega arith)) ∙ sym two in
+    ap (λ l. set (set l n a) (n + 1) b) (e ∙ ap (λ l. item_bytes (take i xs) ++ l) (drop_two was n h)) ∙
+    set_two (item_bytes (take i xs)) (drop (n + 2) was) _ _ a b n size ∙
+    (λ j. (item_bytes (take i xs) ++ p j ∷ m j ∷ []) ++ drop (n + 2) was) ∙
+    ap (λ l. l ++ drop (n + 2) was) (sym (ap item_bytes (take_more xs i blank_item l) ∙ item_bytes_push (take i xs) (get_or xs i blank_item)))
 
 -- what the argument's part leaves, and what stands behind that part
 rest : (o : List ℕ) (r : ℕ) → longest_argument ≤ length o → r ≤ longest_argument → drop r (take longest_argument o) ++ drop longest_argument o ≡ drop r o

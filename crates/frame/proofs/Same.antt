@@ -1,40 +1,26 @@
 -- One reading: two operations of one number and one argument are the same, and so are two frames of the same bytes.
-use Rattle.std.proofs.Common.{◌≡◌, ℕ, ◌/◌, ◌%◌, ◌≤◌, true, List, [], ◌∷◌, length, get_or, drop, Some, None, Option, sym, refl, ap, ◌∙◌, subst, arith, lit≤}
-use Rattle.std.proofs.lemmas.List.{length-take-le}
-use Rattle.std.proofs.lemmas.Bool.{and_parts, eqb-true}
-use Rattle.terms.specs.Padding.{padded}
+use Rattle.std.proofs.Common.{◌≡◌, ℕ, ◌/◌, ◌%◌, ◌≤◌, List, [], ◌∷◌, length, get_or, drop, Some, None, Option, sym, refl, ap, ◌∙◌, subst, arith, lit≤}
 use Rattle.terms.specs.Points.{point_number}
 use Rattle.terms.specs.declared.digits.Digits.{Digits}
 use Rattle.terms.specs.declared.error_code.ErrorCode.{ErrorCode}
-use Rattle.terms.proofs.Tests.{is_true, made_same}
-use Rattle.terms.proofs.Padded.{padded_parts, padded_same}
-use Rattle.terms.proofs.Named.{digits_same, digits_few}
 use Rattle.terms.proofs.Numbered.{point_same, error_same}
-use Rattle.frame.specs.Limits.{longest_argument, most_items}
-use Rattle.frame.specs.Items.{mode_number, item_bytes, is_blank}
+use Rattle.terms.proofs.Tested.{list_same, list_short, digits_same, digits_few}
+use Rattle.frame.specs.Limits.{longest_argument}
+use Rattle.frame.specs.Items.{mode_number, item_bytes, blank_alone}
 use Rattle.frame.specs.Operations.{code_at, code_in, argument, items_in, address_bytes}
 use Rattle.frame.specs.Format.{code_byte, wire}
 use Rattle.frame.specs.declared.item.Item.{Item}
 use Rattle.frame.specs.declared.item.Mode.{Mode}
-use Rattle.frame.specs.declared.item.Mode.TheVariants.{Interrupt, Notify, Transparent}
 use Rattle.frame.specs.declared.items.Items.{Items}
 use Rattle.frame.specs.declared.code.Code.{Code}
 use Rattle.frame.specs.declared.code.Code.TheVariants as C
 use Rattle.frame.specs.declared.operation.Operation.{Operation}
 use Rattle.frame.specs.declared.operation.Operation.TheVariants as O
 use Rattle.frame.specs.declared.operation.Frame.{Frame}
-use Rattle.frame.proofs.Spelling.{blank, length_item_bytes}
+use Rattle.frame.proofs.Spelling.{length_item_bytes}
 
 mode_same : (m n : Mode) → mode_number m ≡ mode_number n → m ≡ n
-mode_same Interrupt Interrupt e = refl
-mode_same Interrupt Notify e = absurd (omega arith)
-mode_same Interrupt Transparent e = absurd (omega arith)
-mode_same Notify Interrupt e = absurd (omega arith)
-mode_same Notify Notify e = refl
-mode_same Notify Transparent e = absurd (omega arith)
-mode_same Transparent Interrupt e = absurd (omega arith)
-mode_same Transparent Notify e = absurd (omega arith)
-mode_same Transparent Transparent e = refl
+mode_same m n e = grind arith
 
 item_same : (x y : Item) → point_number x.point ≡ point_number y.point → mode_number x.mode ≡ mode_number y.mode → x ≡ y
 item_same x y p m =
@@ -52,13 +38,8 @@ item_bytes_same (x ∷ xs) (y ∷ ys) e =
     let r : item_bytes xs ≡ item_bytes ys = cc in
     λ j. item_same x y p m j ∷ item_bytes_same xs ys r j
 
-blank_only : (x : Item) → is_blank x ≡ true → x ≡ blank
-blank_only x e = let p = and_parts _ _ e in item_same x blank (eqb-true _ 1 p.0) (eqb-true _ 0 p.1)
-
 items_same : (a b : Items) → item_bytes (items_in a) ≡ item_bytes (items_in b) → a ≡ b
-items_same a b e =
-    let s = padded_same is_blank blank blank_only most_items a.count b.count a.items b.items (is_true _ a.kept) (is_true _ b.kept) (item_bytes_same _ _ e) in
-    made_same (padded is_blank most_items) (λ c xs p. record { count = c; items = xs; kept = p }) _ _ s.0 _ _ s.1 a.kept b.kept
+items_same a b e = let s = list_same blank_alone a.items b.items (item_bytes_same _ _ e) in λ j. record { items = s j }
 
 address_same : (a b : Digits) → address_bytes a ≡ address_bytes b → a ≡ b
 address_same a b e = digits_same a b (cc)
@@ -174,10 +155,7 @@ address_short : (a : Digits) → length (address_bytes a) ≤ longest_argument
 address_short a = let l = digits_few a in omega arith
 
 items_short : (a : Items) → length (item_bytes (items_in a)) ≤ longest_argument
-items_short a =
-    let p = padded_parts is_blank most_items a.count a.items (is_true _ a.kept) in
-    let l = length-take-le a.count a.items (omega arith) in
-    omega (arith, length_item_bytes (items_in a))
+items_short a = omega (arith, list_short a.items, length_item_bytes (items_in a))
 
 -- no argument is longer than there is room for
 pub argument_short : (p : Operation) → length (argument p) ≤ longest_argument

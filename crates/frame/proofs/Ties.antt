@@ -1,15 +1,14 @@
 -- What ties the writer to the reader.
-use Rattle.std.proofs.Common.{◌≡◌, ℕ, ◌+◌, ◌-◌, ◌*◌, ◌/◌, ◌%◌, ◌<◌, ◌≤◌, Bool, true, false, cond, eqb, leb, List, [], ◌∷◌, ◌++◌, length, get_or, take, drop, IfOk, Ok, Err, Result, sym, refl, ap, ◌∙◌, subst, arith, length-drop}
-use Rattle.std.proofs.lemmas.List.{take_at, take_rest}
+use Rattle.std.proofs.Common.{◌≡◌, ℕ, ◌+◌, ◌*◌, ◌/◌, ◌%◌, ◌<◌, ◌≤◌, Bool, true, false, cond, eqb, leb, List, [], ◌∷◌, ◌++◌, length, get_or, take, drop, IfOk, Ok, Err, Result, sym, refl, ap, ◌∙◌, subst, arith, length-drop}
+use Rattle.std.proofs.lemmas.List.{take_at}
 use Rattle.std.proofs.lemmas.Bool.{and_from, and_parts, cond-true, eq-eqb, eqb-true, le-leb, leb-true}
 use Rattle.std.proofs.lemmas.Bool.Decides.{nat_tests}
 use Rattle.terms.specs.Ranges.{within}
 use Rattle.terms.specs.Refusals.{refusal_number}
 use Rattle.terms.specs.declared.refusal.Refusal.{Refusal}
-use Rattle.terms.specs.declared.refusal.Refusal.TheVariants as R
 use Rattle.frame.specs.Limits.{longest_frame}
 use Rattle.frame.specs.Operations.{argument, code_in}
-use Rattle.frame.specs.Format.{carried, content_fault, fault, frame_fault, frame_length, version_fault, wire}
+use Rattle.frame.specs.Format.{carried, content_fault, fault, frame_fault, frame_length, head_fault, wire}
 use Rattle.frame.specs.Promises.{Reads, Writes}
 use Rattle.frame.specs.Steps.{Contains}
 use Rattle.frame.specs.Laws.{ReadsOnlyAs, WrittenOnlyAs}
@@ -35,18 +34,23 @@ frame_length_parts bs e =
     (leb-true _ _ q.0, leb-true _ _ q.1, eqb-true _ _ p.1)
 
 -- what is read is what stands behind the length
-pub to_reads : (bs : List ℕ) → frame_length bs ≡ true → get_or bs 1 0 < 256 → (r : Result Frame Refusal) → Contains (get_or bs 2 0) (get_or bs 3 0) (get_or bs 4 0) (get_or bs 5 0) (take (length bs - 6) (drop 6 bs)) r → Reads bs r
-to_reads bs len byte (Err e) h =
-    cond-true _ _ _ len ∙ ap (version_fault (get_or bs 2 0) (get_or bs 3 0) (get_or bs 4 0) (get_or bs 5 0)) (sym (take_rest bs 6)) ∙ h
-to_reads bs len byte (Ok f) h =
-    let l = frame_length_parts bs len in
-    let arg : argument f.operation ≡ drop 6 bs = h.4 ∙ take_rest bs 6 in
-    let size = ap length arg ∙ length-drop 6 bs in
+pub to_reads : (bs head arg : List ℕ) → head ≡ take 6 bs → arg ≡ drop 6 bs → true ≡ frame_length bs → get_or bs 1 0 < 256 → (r : Result Frame Refusal) → Contains head arg r → Reads bs r
+to_reads bs head arg hd ar len byte (Err e) h = cond-true _ _ _ (sym len) ∙ (λ j. head_fault (sym hd j) (sym ar j)) ∙ h
+to_reads bs head arg hd ar len byte (Ok f) h =
+    let l = frame_length_parts bs (sym len) in
+    let six = first_six bs l.0 in
+    let at = λ (k : ℕ). ap (λ l. get_or l k 0) (hd ∙ ap (take 6) six) in
+    let rest = h.4 ∙ ar in
+    let size = ap length rest ∙ length-drop 6 bs in
     let b0 : carried (argument f.operation) / 256 ≡ get_or bs 0 0 = omega arith in
     let b1 : carried (argument f.operation) % 256 ≡ get_or bs 1 0 = omega arith in
-    let v = version_right (get_or bs 2 0) _ h.0 in (
-      cond-true _ _ _ len ∙ ap (version_fault (get_or bs 2 0) (get_or bs 3 0) (get_or bs 4 0) (get_or bs 5 0)) (sym (take_rest bs 6)) ∙ h.0,
-      (λ j. b0 j ∷ b1 j ∷ sym v j ∷ h.1 j ∷ h.3 j ∷ h.2 j ∷ arg j) ∙ sym (first_six bs l.0),
+    let v = version_right (get_or head 2 0) _ h.0 in
+    let d : f.dialogue ≡ get_or bs 3 0 = h.1 ∙ at 3 in
+    let i : f.invoke ≡ get_or bs 5 0 = h.2 ∙ at 5 in
+    let k = h.3 ∙ at 4 in
+    let w : 1 ≡ get_or bs 2 0 = sym v ∙ at 2 in (
+      cond-true _ _ _ (sym len) ∙ (λ j. head_fault (sym hd j) (sym ar j)) ∙ h.0,
+      (λ j. b0 j ∷ b1 j ∷ w j ∷ d j ∷ k j ∷ i j ∷ rest j) ∙ sym six,
     )
 
 -- the fault of a frame's bytes is the frame's
@@ -56,15 +60,7 @@ wire_fault f =
     cond-true _ _ _ (and_from _ _ (and_from _ _ (le-leb 6 (length (wire f)) (omega arith)) (le-leb (length (wire f)) longest_frame (omega arith))) (eq-eqb _ _ (omega arith))) ∙ ap (λ k. content_fault f.dialogue k f.invoke (argument f.operation)) (named (code_in f.operation))
 
 some_number : (e : Refusal) → 0 < refusal_number e
-some_number R.Room = omega arith
-some_number R.FrameLength = omega arith
-some_number R.Version = omega arith
-some_number R.Dialogue = omega arith
-some_number R.Operation = omega arith
-some_number R.Invoke = omega arith
-some_number R.ArgumentLength = omega arith
-some_number R.Value = omega arith
-some_number R.PointTwice = omega arith
+some_number e = grind arith
 
 room_left : (b : Bool) (x : ℕ) → cond b x 1 ≡ 0 → x ≡ 0
 room_left true x e = e

@@ -1,7 +1,8 @@
 -- The operations: the number and the name of each, and the bytes of its argument.
-use Rattle.std.specs.Prelude.{ℕ, ◌/◌, ◌%◌, cond, List, [], ◌∷◌, length, take, Some, None, codes, Option, ◌==◌}
+use Rattle.std.specs.Prelude.{ℕ, ◌/◌, ◌%◌, if◌then◌else◌, List, [], ◌∷◌, length, Some, None, codes, Option, ◌==◌}
 use Rattle.terms.specs.declared.digits.Digits.{Digits}
 use Rattle.terms.specs.Digits.{ascii}
+use Rattle.terms.specs.ShortLists.{elements}
 use Rattle.terms.specs.ErrorCodes.{error_number}
 use Rattle.frame.specs.Items.{item_bytes}
 use Rattle.frame.specs.declared.item.Item.{Item}
@@ -37,7 +38,7 @@ operations =
 -- the operation of a number among some
 abbrev pub numbered : ℕ → List Code → Option Code
 numbered n [] = None
-numbered n (k ∷ ks) = cond (n == code_number k) (Some k) (numbered n ks)
+numbered n (k ∷ ks) = if n == code_number k then Some k else numbered n ks
 
 -- the operation of a number, if there is one
 abbrev pub code_at : ℕ → Option Code
@@ -85,7 +86,7 @@ address_bytes a = length (ascii a) ∷ ascii a
 
 -- the items that are meant
 abbrev pub items_in : Items → List Item
-items_in xs = take xs.count xs.items
+items_in xs = elements xs.items
 
 abbrev pub argument : Operation → List ℕ
 argument (O.InitialDpError e) = error_number e ∷ []

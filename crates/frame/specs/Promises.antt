@@ -1,5 +1,5 @@
 -- What the reader and the writer promise.
-use Rattle.std.specs.Prelude.{◌≡◌, ℕ, cond, List, ◌++◌, length, drop, Ok, Err, Result, nat_le}
+use Rattle.std.specs.Prelude.{◌≡◌, ℕ, if◌then◌else◌, List, ◌++◌, length, drop, Ok, Err, Result, nat_le}
 use Rattle.terms.specs.declared.refusal.Refusal.{Refusal}
 use Rattle.terms.specs.declared.refusal.Refusal.TheVariants as R
 use Rattle.terms.specs.Refusals.{refusal_number}
@@ -14,7 +14,7 @@ Reads bs (Err e) = fault bs ≡ refusal_number e
 
 -- the first fault of a frame that is to be written into so much room
 abbrev pub write_fault : ℕ → Frame → ℕ
-write_fault room f = cond (nat_le longest_frame room) (frame_fault f) (refusal_number R.Room)
+write_fault room f = if nat_le longest_frame room then frame_fault f else refusal_number R.Room
 
 -- writing: the frame's bytes in front of what stood behind them; a refusal leaves all as it was
 abbrev pub Writes : Frame → List ℕ → Result ℕ Refusal → List ℕ → Type 0

@@ -1,9 +1,9 @@
 -- What the steps of the reader and the writer promise each other.
-use Rattle.std.specs.Prelude.{◌≡◌, ℕ, List, Some, Ok, Err, Option, Result}
+use Rattle.std.specs.Prelude.{◌≡◌, ℕ, List, ◌++◌, length, drop, Some, Ok, Err, Option, Result, slice_index}
 use Rattle.terms.specs.declared.refusal.Refusal.{Refusal}
 use Rattle.terms.specs.Refusals.{refusal_number}
 use Rattle.frame.specs.Operations.{argument, code_in}
-use Rattle.frame.specs.Format.{argument_fault, code_byte, content_fault, version_fault}
+use Rattle.frame.specs.Format.{argument_fault, code_byte, content_fault, head_fault}
 use Rattle.frame.specs.declared.code.Code.{Code}
 use Rattle.frame.specs.declared.operation.Frame.{Frame}
 
@@ -21,9 +21,13 @@ abbrev pub ChecksHead : ℕ → Option Code → ℕ → Result Code Refusal → 
 ChecksHead d o i (Ok k) = (o ≡ Some k) × ((arg : List ℕ) → content_fault d o i arg ≡ argument_fault k arg)
 ChecksHead d o i (Err e) = (arg : List ℕ) → content_fault d o i arg ≡ refusal_number e
 
--- reading what stands behind the length: a version, a dialogue, an operation's number, an invoke number, an argument
-abbrev pub Contains : ℕ → ℕ → ℕ → ℕ → List ℕ → Result Frame Refusal → Type 0
-Contains v d n i arg (Ok f) =
-    (version_fault v d n i arg ≡ 0) × (f.dialogue ≡ d) × (f.invoke ≡ i) × (code_byte (code_in f.operation) ≡ n) ×
-    (argument f.operation ≡ arg)
-Contains v d n i arg (Err e) = version_fault v d n i arg ≡ refusal_number e
+-- bytes put at the front of a buffer: how many, and what the buffer then holds
+abbrev pub Puts : List ℕ → List ℕ → ℕ → List ℕ → Type 0
+Puts bytes out n after = (n ≡ length bytes) × (after ≡ bytes ++ drop n out)
+
+-- reading what stands behind the length, of a head and an argument
+abbrev pub Contains : List ℕ → List ℕ → Result Frame Refusal → Type 0
+Contains head arg (Ok f) =
+    (head_fault head arg ≡ 0) × (f.dialogue ≡ slice_index head 3) × (f.invoke ≡ slice_index head 5) ×
+    (code_byte (code_in f.operation) ≡ slice_index head 4) × (argument f.operation ≡ arg)
+Contains head arg (Err e) = head_fault head arg ≡ refusal_number e

@@ -1,7 +1,8 @@
 //! Reading an operation's argument: its length, and the values that have a type of their own.
 ghost use Rattle.std.specs.Prelude.{◌≡◌, ◌/◌, ◌%◌, ◌≤◌, false, [], ◌∷◌, length, Some, MatchOption};
-ghost use Rattle.terms.specs.Each.{all};
+ghost use Rattle.std.specs.List.{list_all};
 ghost use Rattle.terms.specs.ErrorCodes.{error_number};
+ghost use Rattle.terms.specs.ShortLists.{elements};
 ghost use Rattle.frame.specs.Limits.{item_size, longest_argument};
 ghost use Rattle.frame.specs.Items.{item_bytes, spelt, is_item};
 ghost use Rattle.frame.specs.Operations.{address_bytes, argument, code_in, items_in};
@@ -16,15 +17,15 @@ use crate::operation::Operation;
 use terms::digits::{Digits, MOST_DIGITS};
 use terms::error_code::ErrorCode;
 use terms::refusal::Refusal;
+use terms::short_list::ShortList;
 
 /// The operation that has no argument.
 fn bare(operation: Operation, bytes: &[u8]) -> Result<Operation, Refusal>
     ensures { GivesOr (none_fault bytes.now) (λ v. (v ≡ operation) × (bytes.now ≡ [])) result }
 {
-    if bytes.is_empty() {
-        Ok(operation)
-    } else {
-        Err(Refusal::ArgumentLength)
+    match bytes {
+        [] => Ok(operation),
+        _ => Err(Refusal::ArgumentLength),
     }
 }
 
@@ -43,10 +44,7 @@ fn error_code(bytes: &[u8]) -> Result<ErrorCode, Refusal>
     ensures { GivesOr (error_fault bytes.now) (λ v. bytes.now ≡ error_number v ∷ []) result }
 {
     match bytes {
-        [v] => match ErrorCode::from_number(*v) {
-            Some(code) => Ok(code),
-            None => Err(Refusal::Value),
-        },
+        [v] => ErrorCode::try_from(*v).or(Err(Refusal::Value)),
         _ => Err(Refusal::ArgumentLength),
     }
 }
@@ -56,7 +54,7 @@ fn ticks(bytes: &[u8]) -> Result<u16, Refusal>
     ensures { GivesOr (ticks_fault bytes.now) (λ v. bytes.now ≡ (v / 256) ∷ (v % 256) ∷ []) result }
 {
     match bytes {
-        [high, low] => Ok(256 * u16::from(*high) + u16::from(*low)),
+        [high, low] => Ok(u16::from_be_bytes([*high, *low])),
         _ => Err(Refusal::ArgumentLength),
     }
 }
@@ -65,27 +63,29 @@ fn ticks(bytes: &[u8]) -> Result<u16, Refusal>
 fn address(bytes: &[u8]) -> Result<Digits, Refusal>
     ensures { GivesOr (address_fault bytes.now) (λ a. address_bytes a ≡ bytes.now) result }
 {
-    let n = bytes.len();
-    if n < 2 || n > 1 + MOST_DIGITS || bytes[0] as usize + 1 != n {
+    let Some((count, ascii)) = bytes.split_first() else {
+        return Err(Refusal::ArgumentLength);
+    };
+    let n = ascii.len();
+    if n < 1 || n > MOST_DIGITS || usize::from(*count) != n {
         return Err(Refusal::ArgumentLength);
     }
-    match Digits::from_ascii(&bytes[1..n]) {
-        Some(digits) => Ok(digits),
-        None => Err(Refusal::Value),
-    }
+    Digits::from_ascii(ascii).ok_or(Refusal::Value)
 }
 
 /// The items that bytes spell, unless a point or a mode does not exist.
-fn spelt_items(bytes: &[u8]) -> Option<Items>
+fn spelt_items(bytes: &[u8]) -> Option<ShortList<Item, MOST_ITEMS>>
     requires { (length bytes.now ≤ longest_argument) × (length bytes.now % item_size ≡ 0) }
-    ensures { MatchOption result (all is_item (spelt bytes.now) ≡ false) (λ xs. item_bytes (items_in xs) ≡ bytes.now) }
+    ensures { MatchOption result (list_all is_item (spelt bytes.now) ≡ false) (λ xs. item_bytes (elements xs) ≡ bytes.now) }
 {
-    let n = bytes.len() / ITEM_SIZE;
-    let mut items = [Item::BLANK; MOST_ITEMS];
-    for i in 0..n {
-        items[i] = Item::from_numbers(bytes[ITEM_SIZE * i], bytes[ITEM_SIZE * i + 1])?;
+    let mut items = ShortList::empty();
+    let mut rest = bytes;
+    while let Some((numbers, others)) = rest.split_first_chunk::<ITEM_SIZE>() {
+        let item = Item::try_from((numbers[0], numbers[1])).ok()?;
+        items.push(item).unwrap();
+        rest = others;
     }
-    Items::new(&items[0..n])
+    Some(items)
 }
 
 /// Items: one or more, each of the same size.
@@ -96,10 +96,8 @@ fn items(bytes: &[u8]) -> Result<Items, Refusal>
     if n < ITEM_SIZE || n > MOST_ITEMS * ITEM_SIZE || n % ITEM_SIZE != 0 {
         return Err(Refusal::ArgumentLength);
     }
-    match spelt_items(bytes) {
-        Some(items) => Ok(items),
-        None => Err(Refusal::Value),
-    }
+    let items = spelt_items(bytes).ok_or(Refusal::Value)?;
+    Ok(Items { items })
 }
 
 /// The operation with its argument, or the fault by which the bytes spell none.

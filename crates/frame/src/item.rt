@@ -1,12 +1,15 @@
 //! One item of a request to report events.
-ghost use Rattle.std.specs.Prelude.{◌≡◌, false, MatchOption};
+ghost use Rattle.std.specs.Prelude.{◌≡◌, false, ◌==◌, Some, MatchResult};
 ghost use Rattle.terms.specs.Points.{point_number};
-ghost use Rattle.frame.specs.Items.{is_item, is_mode, mode_number};
+ghost use Rattle.frame.specs.Items.{blank_item, is_item, is_mode, mode_name, mode_number};
 
+use std::fmt;
 use terms::point::Point;
+use terms::short_list::Blank;
+use terms::unknown_number::UnknownNumber;
 
 /// What the exchange does when the call comes to a detection point.
-#[derive(Clone, Copy, PartialEq, Eq)]
+#[derive(Clone, Copy, PartialEq, Eq, Debug)]
 pub enum Mode {
     /// Report it, and hold the call for instructions.
     Interrupt = 0,
@@ -16,48 +19,91 @@ pub enum Mode {
     Transparent = 2,
 }
 
-impl Mode {
-    /// The byte that stands for the mode.
-    pub(crate) fn number(self) -> u8
-        ensures { result ≡ mode_number self }
-    {
-        self as u8
-    }
+/// The byte that stands for the mode.
+impl From<Mode> for u8 {
+    ghost from_gives = { λ m number. number ≡ mode_number m };
 
-    /// The mode that a byte stands for, if it stands for one.
-    pub(crate) fn from_number(number: u8) -> Option<Mode>
-        ensures { MatchOption result (is_mode number ≡ false) (λ m. mode_number m ≡ number) }
-    {
+    fn from(mode: Mode) -> u8 {
+        mode as u8
+    }
+}
+
+/// The mode that a byte stands for, if it stands for one.
+impl TryFrom<u8> for Mode {
+    type Error = UnknownNumber;
+
+    ghost try_from_gives = { λ number r. MatchResult r (λ m. mode_number m ≡ number) (λ _. is_mode number ≡ false) };
+
+    fn try_from(number: u8) -> Result<Mode, UnknownNumber> {
         match number {
-            0 => Some(Mode::Interrupt),
-            1 => Some(Mode::Notify),
-            2 => Some(Mode::Transparent),
-            _ => None,
+            0 => Ok(Mode::Interrupt),
+            1 => Ok(Mode::Notify),
+            2 => Ok(Mode::Transparent),
+            _ => Err(UnknownNumber),
         }
     }
 }
 
+/// Shows the mode in a word.
+impl fmt::Display for Mode {
+    ghost output = { λ m. Some (mode_name m) };
+
+    fn fmt<W: fmt::Write>(&self, f: &mut fmt::Formatter<W>) -> fmt::Result {
+        f.pad(match self {
+            Mode::Interrupt => "interrupt",
+            Mode::Notify => "notify",
+            Mode::Transparent => "transparent",
+        })
+    }
+}
+
 /// A detection point, and the mode in which it is asked for.
-#[derive(Clone, Copy)]
+#[derive(Clone, Copy, PartialEq, Eq, Debug)]
 pub struct Item {
     pub point: Point,
     pub mode: Mode,
 }
 
 impl Item {
-    /// What fills an array behind the items that are meant.
-    pub(crate) const BLANK: Item = Item {
-        point: Point::OrigAttemptAuthorized,
-        mode: Mode::Interrupt,
-    };
-
-    /// The item of a point's and a mode's number, if both exist.
-    pub(crate) fn from_numbers(point: u8, mode: u8) -> Option<Item>
-        ensures { MatchOption result (is_item (point, mode) ≡ false) (λ x. (point_number x.point ≡ point) × (mode_number x.mode ≡ mode)) }
+    /// Whether the item is of this point.
+    pub(crate) fn is_of(&self, point: Point) -> bool
+        ensures { result ≡ (point_number self.now.point == point_number point) }
     {
-        Some(Item {
-            point: Point::from_number(u32::from(point))?,
-            mode: Mode::from_number(mode)?,
+        self.point == point
+    }
+}
+
+/// The item of a point's and a mode's number, if both exist.
+impl TryFrom<(u8, u8)> for Item {
+    type Error = UnknownNumber;
+
+    ghost try_from_gives = { λ numbers r. MatchResult r (λ x. (point_number x.point ≡ numbers.0) × (mode_number x.mode ≡ numbers.1)) (λ _. is_item numbers ≡ false) };
+
+    fn try_from(numbers: (u8, u8)) -> Result<Item, UnknownNumber> {
+        let (point, mode) = numbers;
+        Ok(Item {
+            point: Point::try_from(u32::from(point))?,
+            mode: Mode::try_from(mode)?,
         })
     }
+}
+
+impl Blank for Item {
+    ghost use Rattle.std.specs.Prelude.{refl};
+    ghost use Rattle.frame.specs.Items.{blank_alone, is_blank};
+
+    ghost blank = { blank_item };
+
+    ghost is_blank = { is_blank };
+
+    fn blank() -> Item {
+        Item {
+            point: Point::OrigAttemptAuthorized,
+            mode: Mode::Interrupt,
+        }
+    }
+
+    ghost passes = { refl };
+
+    ghost alone = { blank_alone };
 }

@@ -1,9 +1,10 @@
 //! What a frame says.
-ghost use Rattle.std.specs.Prelude.{◌≡◌};
+ghost use Rattle.std.specs.Prelude.{◌≡◌, Some};
 ghost use Rattle.frame.specs.Operations.{code_in, operation_name};
 
 use crate::code::Code;
 use crate::items::Items;
+use std::fmt;
 use terms::digits::Digits;
 use terms::error_code::ErrorCode;
 
@@ -87,6 +88,15 @@ impl Operation {
             Operation::ActivityTest => "ActivityTest",
             Operation::Unknown => "unknown operation",
         }
+    }
+}
+
+/// Shows the operation's name.
+impl fmt::Display for Operation {
+    ghost output = { λ o. Some (operation_name o) };
+
+    fn fmt<W: fmt::Write>(&self, f: &mut fmt::Formatter<W>) -> fmt::Result {
+        f.pad(self.name())
     }
 }
 

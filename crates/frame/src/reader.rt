@@ -20,24 +20,19 @@ fn has_frame_length(bytes: &[u8]) -> bool
     if n < HEAD_SIZE || n > LONGEST_FRAME {
         return false;
     }
-    256 * bytes[0] as usize + bytes[1] as usize + 2 == n
+    usize::from(u16::from_be_bytes([bytes[0], bytes[1]])) + 2 == n
 }
 
-/// The frame of what stands behind the length field.
-fn content(
-    version: u8,
-    dialogue: u8,
-    number: u8,
-    invoke: u8,
-    bytes: &[u8],
-) -> Result<Frame, Refusal>
-    ensures { Contains version dialogue number invoke bytes.now result }
+/// The frame of a head and an argument; the head's length is right.
+fn content(head: &[u8; HEAD_SIZE], argument: &[u8]) -> Result<Frame, Refusal>
+    ensures { Contains head.now argument.now result }
 {
+    let [_, _, version, dialogue, number, invoke] = *head;
     if version != VERSION {
         return Err(Refusal::Version);
     }
-    let code = check_head(dialogue, Code::from_number(number), invoke)?;
-    let operation = operation(code, bytes)?;
+    let code = check_head(dialogue, Code::try_from(number).ok(), invoke)?;
+    let operation = operation(code, argument)?;
     check_argument(&operation)?;
     Ok(Frame {
         dialogue,
@@ -52,14 +47,8 @@ pub fn read(bytes: &[u8]) -> Result<Frame, Refusal>
     ensures can_be_written { IfOk result (λ f. frame_fault f ≡ 0) }
     ensures one_spelling { IfOk result (λ f. WrittenOnlyAs f bytes.now) }
 {
-    if !has_frame_length(bytes) {
-        return Err(Refusal::FrameLength);
+    match bytes.split_first_chunk() {
+        Some((head, argument)) if has_frame_length(bytes) => content(head, argument),
+        _ => Err(Refusal::FrameLength),
     }
-    content(
-        bytes[2],
-        bytes[3],
-        bytes[4],
-        bytes[5],
-        &bytes[HEAD_SIZE..bytes.len()],
-    )
 }

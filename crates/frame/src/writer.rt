@@ -1,5 +1,5 @@
 //! The writer.
-ghost use Rattle.std.specs.Prelude.{◌≡◌, ◌+◌, ◌≤◌, [], ◌∷◌, ◌++◌, length, take, drop, IfOk, Some};
+ghost use Rattle.std.specs.Prelude.{◌≡◌, ◌+◌, ◌≤◌, ◌/◌, ◌%◌, [], ◌∷◌, length, take, IfOk, Some};
 ghost use Rattle.terms.specs.Decimals.{most_digits};
 ghost use Rattle.frame.specs.Limits.{longest_argument, longest_frame, most_items, version};
 ghost use Rattle.frame.specs.Items.{item_bytes};
@@ -7,6 +7,7 @@ ghost use Rattle.frame.specs.Operations.{address_bytes, argument, code_in, code_
 ghost use Rattle.frame.specs.Format.{wire};
 ghost use Rattle.frame.specs.Laws.{ReadsOnlyAs};
 ghost use Rattle.frame.specs.Promises.{Writes};
+ghost use Rattle.frame.specs.Steps.{Puts};
 
 use crate::check::check_frame;
 use crate::code::Code;
@@ -16,11 +17,14 @@ use crate::operation::{Frame, Operation};
 use terms::digits::Digits;
 use terms::refusal::Refusal;
 
+// Each of these asks for its room. An array's type would say it, but of a part that `first_chunk_mut` gives and `unwrap` takes
+// out nothing is known after the borrow, and a `let .. else` would add a way out that is never taken.
+
 /// Writes how many digits there are, then the digits; returns the bytes written.
 fn put_address(address: &Digits, out: &mut [u8]) -> usize
     requires { 1 + most_digits ≤ length out.old }
-    ensures len { (result ≡ length (address_bytes address.now)) × (result ≤ 1 + most_digits) }
-    ensures after { out.new ≡ address_bytes address.now ++ drop result out.old }
+    ensures puts { Puts (address_bytes address.now) out.old result out.new }
+    ensures few { result ≤ 1 + most_digits }
 {
     let digits = address.as_ascii();
     let n = 1 + digits.len();
@@ -32,44 +36,54 @@ fn put_address(address: &Digits, out: &mut [u8]) -> usize
 /// Writes the items one after the other; returns the bytes written.
 fn put_items(items: &[Item], out: &mut [u8]) -> usize
     requires { (length items.now ≤ most_items) × (longest_argument ≤ length out.old) }
-    ensures len { (result ≡ length (item_bytes items.now)) × (result ≤ longest_argument) }
-    ensures after { out.new ≡ item_bytes items.now ++ drop result out.old }
+    ensures puts { Puts (item_bytes items.now) out.old result out.new }
+    ensures few { result ≤ longest_argument }
 {
-    let n = items.len();
-    for i in 0..n {
-        out[ITEM_SIZE * i] = items[i].point.number();
-        out[ITEM_SIZE * i + 1] = items[i].mode.number();
+    // By index: after a `chunks_exact_mut` nothing but the length is known.
+    let mut n = 0;
+    for item in items {
+        out[n] = u8::from(item.point);
+        out[n + 1] = u8::from(item.mode);
+        n += ITEM_SIZE;
     }
-    ITEM_SIZE * n
+    n
 }
 
 /// Writes one byte; returns that it is one.
 fn put_byte(byte: u8, out: &mut [u8]) -> usize
     requires { longest_argument ≤ length out.old }
-    ensures len { result ≡ 1 }
-    ensures after { out.new ≡ byte ∷ drop 1 out.old }
+    ensures puts { Puts (byte ∷ []) out.old result out.new }
+    ensures few { result ≤ longest_argument }
 {
     out[0] = byte;
     1
 }
 
+/// Writes a number in two bytes, the higher one first; returns that they are two.
+fn put_number(number: u16, out: &mut [u8]) -> usize
+    requires { longest_argument ≤ length out.old }
+    ensures puts { Puts ((number / 256) ∷ (number % 256) ∷ []) out.old result out.new }
+    ensures few { result ≤ longest_argument }
+{
+    let [high, low] = number.to_be_bytes();
+    out[0] = high;
+    out[1] = low;
+    2
+}
+
 /// Writes the operation's argument; returns the bytes written.
 fn put_argument(operation: &Operation, out: &mut [u8]) -> usize
     requires { longest_argument ≤ length out.old }
-    ensures len { (result ≡ length (argument operation.now)) × (result ≤ longest_argument) }
-    ensures after { out.new ≡ argument operation.now ++ drop result out.old }
+    ensures puts { Puts (argument operation.now) out.old result out.new }
+    ensures few { result ≤ longest_argument }
 {
     match operation {
-        Operation::InitialDpError(error) => put_byte(error.number(), out),
+        Operation::InitialDpError(error) => put_byte(u8::from(*error), out),
         Operation::EstablishTemporaryConnection(address) => put_address(address, out),
         Operation::Connect(address) => put_address(address, out),
         Operation::ReleaseCall(cause) => put_byte(*cause, out),
         Operation::RequestReportBcsmEvent(items) => put_items(items.as_slice(), out),
-        Operation::ResetTimer(ticks) => {
-            out[0] = (*ticks / 256) as u8;
-            out[1] = (*ticks % 256) as u8;
-            2
-        }
+        Operation::ResetTimer(ticks) => put_number(*ticks, out),
         _ => 0,
     }
 }
@@ -80,24 +94,18 @@ fn head(frame: &Frame, code: Code, size: usize) -> [u8; HEAD_SIZE]
     ensures { result ≡ 0 ∷ (4 + size) ∷ version ∷ frame.now.dialogue ∷ code_number code ∷ frame.now.invoke ∷ [] }
 {
     let (dialogue, invoke) = (frame.dialogue, frame.invoke);
-    [
-        0,
-        (4 + size) as u8,
-        VERSION,
-        dialogue,
-        code.number(),
-        invoke,
-    ]
+    let [high, low] = (4 + size as u16).to_be_bytes();
+    [high, low, VERSION, dialogue, u8::from(code), invoke]
 }
 
 /// Writes the frame of an operation whose code this is; returns the bytes written.
 fn put(frame: &Frame, code: Code, out: &mut [u8]) -> usize
     requires { (longest_frame ≤ length out.old) × (code_in frame.now.operation ≡ Some code) }
-    ensures len { (result ≡ length (wire frame.now)) × (result ≤ longest_frame) }
-    ensures after { out.new ≡ wire frame.now ++ drop result out.old }
+    ensures puts { Puts (wire frame.now) out.old result out.new }
+    ensures few { result ≤ longest_frame }
 {
     let n = put_argument(&frame.operation, &mut out[HEAD_SIZE..LONGEST_FRAME]);
-    out[0..HEAD_SIZE].copy_from_slice(&head(frame, code, n));
+    out[..HEAD_SIZE].copy_from_slice(&head(frame, code, n));
     HEAD_SIZE + n
 }
 

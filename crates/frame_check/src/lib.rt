@@ -1,7 +1,7 @@
 //! Reading a frame, and holding it against what is written again.
 #![tactic(auto)]
 
-ghost use Rattle.std.specs.Prelude.{◌≡◌, Decides};
+ghost use Rattle.std.specs.Prelude.{◌≡◌, ◌↔◌, IsTrue};
 ghost use Rattle.frame.specs.Format.{frame_fault, wire};
 ghost use Rattle.frame_check.specs.Findings.{Finds};
 
@@ -18,11 +18,11 @@ pub struct Finding {
 
 /// Whether the frame can be written, and is then these very bytes.
 pub fn writes_as(frame: &Frame, bytes: &[u8]) -> bool
-    ensures { Decides result ((frame_fault frame.now ≡ 0) × (wire frame.now ≡ bytes.now)) }
+    ensures { IsTrue result ↔ ((frame_fault frame.now ≡ 0) × (wire frame.now ≡ bytes.now)) }
 {
     let mut out = [0; LONGEST_FRAME];
     match write(frame, &mut out) {
-        Ok(n) => &out[0..n] == bytes,
+        Ok(n) => &out[..n] == bytes,
         Err(_) => false,
     }
 }

@@ -5,22 +5,19 @@ use terms::digits::Digits;
 use terms::error_code::ErrorCode;
 use terms::point::Point;
 
-/// The length that is written, or 100 and the refusal's number; the room is 40 bytes.
-fn answer(dialogue: u8, invoke: u8, operation: Operation) -> usize {
+/// The length that is written, or the refusal's number; the room is 40 bytes.
+fn answer(dialogue: u8, invoke: u8, operation: Operation) -> Result<usize, u8> {
     let mut out = [0; 40];
     let frame = Frame {
         dialogue,
         invoke,
         operation,
     };
-    match write(&frame, &mut out) {
-        Ok(n) => n,
-        Err(refusal) => 100 + refusal.number() as usize,
-    }
+    write(&frame, &mut out).map_err(u8::from)
 }
 
 /// Checks that answer in dialogue 7 under invoke number 6.
-fn writes(rt: &impl Abort, operation: Operation, expected: usize) {
+fn writes(rt: &impl Abort, operation: Operation, expected: Result<usize, u8>) {
     assert_eq!(rt; answer(7, 6, operation), expected);
 }
 
@@ -43,20 +40,20 @@ fn room(rt: HostRuntime) {
 /// Dialogue, operation and invoke number are refused by 4, 5 and 6, in this order.
 #[test]
 fn heads(rt: HostRuntime) {
-    assert_eq!(rt; answer(63, 127, Operation::Cancel), 6);
-    assert_eq!(rt; answer(64, 128, Operation::Unknown), 104);
-    assert_eq!(rt; answer(63, 128, Operation::Unknown), 105);
-    assert_eq!(rt; answer(63, 128, Operation::Cancel), 106);
+    assert_eq!(rt; answer(63, 127, Operation::Cancel), Ok(6));
+    assert_eq!(rt; answer(64, 128, Operation::Unknown), Err(4));
+    assert_eq!(rt; answer(63, 128, Operation::Unknown), Err(5));
+    assert_eq!(rt; answer(63, 128, Operation::Cancel), Err(6));
 }
 
 /// The same for Connect to these digits, if they are digits at all.
-fn connect(ascii: &[u8]) -> Option<usize> {
+fn connect(ascii: &[u8]) -> Option<Result<usize, u8>> {
     let address = Digits::from_ascii(ascii)?;
     Some(answer(7, 6, Operation::Connect(address)))
 }
 
 /// The same for a request to report these items, if they are not too many.
-fn report(items: &[Item]) -> Option<usize> {
+fn report(items: &[Item]) -> Option<Result<usize, u8>> {
     let items = Items::new(items)?;
     Some(answer(7, 6, Operation::RequestReportBcsmEvent(items)))
 }
@@ -64,17 +61,17 @@ fn report(items: &[Item]) -> Option<usize> {
 /// Values that no frame can carry are refused by 7, 8 and 9.
 #[test]
 fn arguments(rt: HostRuntime) {
-    assert_eq!(rt; connect(b""), Some(107));
-    assert_eq!(rt; connect(b"123456789012345"), Some(22));
+    assert_eq!(rt; connect(b""), Some(Err(7)));
+    assert_eq!(rt; connect(b"123456789012345"), Some(Ok(22)));
     assert_eq!(rt; connect(b"1234567890123456"), None);
-    writes(&rt, Operation::ReleaseCall(0), 108);
-    writes(&rt, Operation::ReleaseCall(128), 108);
-    writes(&rt, Operation::ResetTimer(0), 108);
-    writes(&rt, Operation::ResetTimer(6000), 8);
-    writes(&rt, Operation::ResetTimer(6001), 108);
+    writes(&rt, Operation::ReleaseCall(0), Err(8));
+    writes(&rt, Operation::ReleaseCall(128), Err(8));
+    writes(&rt, Operation::ResetTimer(0), Err(8));
+    writes(&rt, Operation::ResetTimer(6000), Ok(8));
+    writes(&rt, Operation::ResetTimer(6001), Err(8));
     assert_eq!(rt;
         answer(7, 6, Operation::InitialDpError(ErrorCode::TaskRefused)),
-        7
+        Ok(7)
     );
 }
 
@@ -85,9 +82,9 @@ fn items(rt: HostRuntime) {
         point: Point::ODisconnect,
         mode: Mode::Notify,
     };
-    assert_eq!(rt; report(&[]), Some(107));
-    assert_eq!(rt; report(&[item]), Some(8));
-    assert_eq!(rt; report(&[item, item]), Some(109));
-    assert_eq!(rt; report(&[item; 17]), Some(109));
+    assert_eq!(rt; report(&[]), Some(Err(7)));
+    assert_eq!(rt; report(&[item]), Some(Ok(8)));
+    assert_eq!(rt; report(&[item, item]), Some(Err(9)));
+    assert_eq!(rt; report(&[item; 17]), Some(Err(9)));
     assert_eq!(rt; report(&[item; 18]), None);
 }

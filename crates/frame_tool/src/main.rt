@@ -7,8 +7,7 @@ use frame_check::examine;
 use hexadecimal::decode;
 use std::io::{BufRead, BufReader};
 use std::{env, io};
-use terms::refusal::Refusal;
-use words::print_frame;
+use words::{InWords, Refused};
 
 /// The most bytes that a line may spell: more than any frame has, so that too long a frame gets the reader's refusal.
 const MOST_BYTES: usize = 128;
@@ -18,32 +17,21 @@ Each line is a frame in capital hexadecimal. For each the tool prints what the
 frame says, and whether it is the same bytes when it is written again; or the
 number of the refusal, what it means, and the error code that answers it.";
 
-fn print_refusal(rt: &HostRuntime, refusal: Refusal) -> io::Result<()> {
-    let number = refusal.number();
-    print!(rt; "refused by {number}: {refusal}")?;
-    if let Some(error) = refusal.error_code() {
-        let number = error.number();
-        let name = error.name();
-        print!(rt; "; answered by {number} {name}")?;
-    }
-    println!(rt)
-}
-
 fn print_bytes(rt: &HostRuntime, bytes: &[u8]) -> io::Result<()> {
     match examine(bytes) {
         Ok(finding) => {
-            print_frame(rt, &finding.frame)?;
+            let frame = InWords(&finding.frame);
             let same = if finding.same { "the same" } else { "OTHER" };
-            println!(rt; "; written again: {same} bytes")
+            println!(rt; "{frame}; written again: {same} bytes")
         }
-        Err(refusal) => print_refusal(rt, refusal),
+        Err(refusal) => rt.println(Refused(refusal)),
     }
 }
 
 fn print_line(rt: &HostRuntime, line: &[u8]) -> io::Result<()> {
     let mut bytes = [0; MOST_BYTES];
     match decode(line, &mut bytes) {
-        Ok(n) => print_bytes(rt, &bytes[0..n]),
+        Ok(n) => print_bytes(rt, &bytes[..n]),
         Err(fault) => println!(rt; "bad line: {fault}"),
     }
 }

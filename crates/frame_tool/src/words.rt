@@ -1,52 +1,94 @@
-//! Saying in words what a frame is.
-use frame::{Frame, Item, Mode, Operation};
-use std::io;
+//! Saying in words what a frame is, and why it was refused.
+use frame::{Frame, Item, Operation};
+use std::fmt;
+use terms::error_code::ErrorCode;
+use terms::refusal::Refusal;
 
-fn mode_word(mode: Mode) -> &'static str {
-    match mode {
-        Mode::Interrupt => "interrupt",
-        Mode::Notify => "notify",
-        Mode::Transparent => "transparent",
+/// An error code by its number and its name.
+#[derive(Clone, Copy)]
+struct Numbered(ErrorCode);
+
+impl fmt::Display for Numbered {
+    fn fmt<W: fmt::Write>(&self, f: &mut fmt::Formatter<W>) -> fmt::Result {
+        let code = self.0;
+        let number = u8::from(code);
+        write!(f, "{number} {code}")
     }
 }
 
-/// Prints the items, with a comma between each two.
-fn print_items(rt: &HostRuntime, items: &[Item]) -> io::Result<()> {
-    for (i, item) in items.iter().enumerate() {
-        let comma = if i > 0 { "," } else { "" };
-        let point = item.point.number();
-        let name = item.point.name();
-        let mode = mode_word(item.mode);
-        print!(rt; "{comma} {point} {name} {mode}")?;
-    }
-    Ok(())
-}
+/// The items, with a comma between each two.
+#[derive(Clone, Copy)]
+struct Listed<'a>(&'a [Item]);
 
-fn print_argument(rt: &HostRuntime, operation: &Operation) -> io::Result<()> {
-    match operation {
-        Operation::InitialDpError(error) => {
-            let number = error.number();
-            let name = error.name();
-            print!(rt; ": {number} {name}")
+impl fmt::Display for Listed<'_> {
+    fn fmt<W: fmt::Write>(&self, f: &mut fmt::Formatter<W>) -> fmt::Result {
+        for (i, item) in self.0.iter().enumerate() {
+            let comma = if i > 0 { "," } else { "" };
+            let (point, mode) = (item.point, item.mode);
+            let number = u8::from(point);
+            write!(f, "{comma} {number} {point} {mode}")?;
         }
-        Operation::EstablishTemporaryConnection(address) | Operation::Connect(address) => {
-            print!(rt; " to {address}")
-        }
-        Operation::ReleaseCall(cause) => print!(rt; ", cause {cause}"),
-        Operation::RequestReportBcsmEvent(items) => {
-            print!(rt; ":")?;
-            print_items(rt, items.as_slice())
-        }
-        Operation::ResetTimer(ticks) => print!(rt; ", ticks {ticks}"),
-        _ => Ok(()),
+        Ok(())
     }
 }
 
-/// Prints the frame's dialogue, invoke number, operation and argument.
-pub(crate) fn print_frame(rt: &HostRuntime, frame: &Frame) -> io::Result<()> {
-    let dialogue = frame.dialogue;
-    let invoke = frame.invoke;
-    let name = frame.operation.name();
-    print!(rt; "dialogue {dialogue}, invoke {invoke}: {name}")?;
-    print_argument(rt, &frame.operation)
+/// The operation's argument.
+#[derive(Clone, Copy)]
+struct Argument<'a>(&'a Operation);
+
+impl fmt::Display for Argument<'_> {
+    fn fmt<W: fmt::Write>(&self, f: &mut fmt::Formatter<W>) -> fmt::Result {
+        let operation = self.0;
+        match operation {
+            Operation::InitialDpError(error) => {
+                let error = Numbered(*error);
+                write!(f, ": {error}")
+            }
+            Operation::EstablishTemporaryConnection(address) | Operation::Connect(address) => {
+                write!(f, " to {address}")
+            }
+            Operation::ReleaseCall(cause) => write!(f, ", cause {cause}"),
+            Operation::RequestReportBcsmEvent(items) => {
+                let items = Listed(items.as_slice());
+                write!(f, ":{items}")
+            }
+            Operation::ResetTimer(ticks) => write!(f, ", ticks {ticks}"),
+            _ => Ok(()),
+        }
+    }
+}
+
+/// The frame's dialogue, invoke number, operation and argument.
+#[derive(Clone, Copy)]
+pub(crate) struct InWords<'a>(pub(crate) &'a Frame);
+
+impl fmt::Display for InWords<'_> {
+    fn fmt<W: fmt::Write>(&self, f: &mut fmt::Formatter<W>) -> fmt::Result {
+        let (dialogue, invoke) = (self.0.dialogue, self.0.invoke);
+        let operation = &self.0.operation;
+        let argument = Argument(operation);
+        write!(
+            f,
+            "dialogue {dialogue}, invoke {invoke}: {operation}{argument}"
+        )
+    }
+}
+
+/// The number of the refusal, what it means, and the error code that answers it.
+#[derive(Clone, Copy)]
+pub(crate) struct Refused(pub(crate) Refusal);
+
+impl fmt::Display for Refused {
+    fn fmt<W: fmt::Write>(&self, f: &mut fmt::Formatter<W>) -> fmt::Result {
+        let refusal = self.0;
+        let number = u8::from(refusal);
+        write!(f, "refused by {number}: {refusal}")?;
+        match refusal.error_code() {
+            Some(code) => {
+                let code = Numbered(code);
+                write!(f, "; answered by {code}")
+            }
+            None => Ok(()),
+        }
+    }
 }

@@ -1,8 +1,8 @@
 //! From text to bytes.
-ghost use Rattle.std.specs.Prelude.{◌≡◌, ◌+◌, ◌*◌, ◌%◌, ◌<◌, ◌≤◌, true, ◌++◌, length, drop, IfOk, MatchOption};
-ghost use Rattle.terms.specs.Each.{all};
+ghost use Rattle.std.specs.Prelude.{◌≡◌, ◌+◌, ◌*◌, ◌%◌, ◌<◌, ◌≤◌, true, not, ◌++◌, length, drop, IfOk, position};
+ghost use Rattle.std.specs.List.{list_all};
 ghost use Rattle.hexadecimal.specs.Text.{bytes_of, digit_value, is_hex_digit};
-ghost use Rattle.hexadecimal.specs.Promises.{Decodes, FirstOther};
+ghost use Rattle.hexadecimal.specs.Promises.{Decodes};
 
 use crate::fault::HexFault;
 
@@ -30,43 +30,41 @@ fn byte_value(high: u8, low: u8) -> u8
 
 /// The place of the first character that is no digit.
 fn first_other(text: &[u8]) -> Option<usize>
-    ensures { MatchOption result (all is_hex_digit text.now ≡ true) (λ i. FirstOther text.now i) }
+    ensures { result ≡ position (λ c. not (is_hex_digit c)) text.now }
 {
-    for (i, c) in text.iter().enumerate() {
-        if !is_hex_digit(*c) {
-            return Some(i);
-        }
-    }
-    None
+    text.iter().position(|c| !is_hex_digit(*c))
 }
 
 /// Writes the bytes that pairs of digits spell.
 fn put_bytes(text: &[u8], out: &mut [u8]) -> usize
-    requires { (all is_hex_digit text.now ≡ true) × ((length text.now % 2 ≡ 0) × (length text.now ≤ 2 * length out.old)) }
+    requires { (list_all is_hex_digit text.now ≡ true) × ((length text.now % 2 ≡ 0) × (length text.now ≤ 2 * length out.old)) }
     ensures len { length text.now ≡ 2 * result }
     ensures after { out.new ≡ bytes_of text.now ++ drop result out.old }
 {
-    let n = text.len() / 2;
-    for i in 0..n {
-        out[i] = byte_value(text[2 * i], text[2 * i + 1]);
+    let mut n = 0;
+    let mut rest = text;
+    while let Some((pair, others)) = rest.split_first_chunk::<2>() {
+        out[n] = byte_value(pair[0], pair[1]);
+        n += 1;
+        rest = others;
     }
     n
 }
 
 /// Writes the bytes that a text spells at the front of `out`, and returns how many; or says what is wrong with the text,
 /// and touches nothing.
+#[tactic(auto, using(crate::proofs::Others::no_other))]
 pub fn decode(text: &[u8], out: &mut [u8]) -> Result<usize, HexFault>
     ensures decodes { Decodes text.now out.old result out.new }
     ensures within { IfOk result (λ n. n ≤ length out.new) }
 {
-    let n = text.len();
-    if n / 2 + n % 2 > out.len() {
+    if text.len().div_ceil(2) > out.len() {
         return Err(HexFault::TooLong);
     }
     if let Some(i) = first_other(text) {
         return Err(HexFault::Character(i));
     }
-    if n % 2 == 1 {
+    if text.len() % 2 == 1 {
         return Err(HexFault::Odd);
     }
     Ok(put_bytes(text, out))

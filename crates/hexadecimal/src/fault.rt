@@ -3,7 +3,7 @@ use std::error::Error;
 use std::fmt;
 
 /// The first fault of a text: its length, then its characters, then whether they go in pairs.
-#[derive(Clone, Copy, Debug)]
+#[derive(Clone, Copy, PartialEq, Eq, Debug)]
 pub enum HexFault {
     /// The text spells more bytes than there is room for.
     TooLong,

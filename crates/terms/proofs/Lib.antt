@@ -1,8 +1,4 @@
-pub mod Walks
-pub mod Tests
-pub mod Padded
-pub mod Named
+pub mod Mapped
 pub mod Numbered
-pub mod Twos
-pub mod Each
-pub mod Replaced
+pub mod Padded
+pub mod Tested

@@ -1,6 +1,6 @@
 pub mod Ranges
-pub mod Each
 pub mod Padding
+pub mod ShortLists
 pub mod Decimals
 pub mod Digits
 pub mod ErrorCodes

@@ -1,6 +1,9 @@
 //! Error codes, as control point and exchange send them to each other.
-ghost use Rattle.std.specs.Prelude.{◌≡◌, false, MatchOption};
+ghost use Rattle.std.specs.Prelude.{◌≡◌, false, Some, MatchResult};
 ghost use Rattle.terms.specs.ErrorCodes.{error_name, error_number, is_error_code};
+
+use crate::unknown_number::UnknownNumber;
+use std::fmt;
 
 /// Why an operation was not carried out.
 #[derive(Clone, Copy, PartialEq, Eq, Debug)]
@@ -16,30 +19,6 @@ pub enum ErrorCode {
 }
 
 impl ErrorCode {
-    /// The byte that stands for this code.
-    pub fn number(self) -> u8
-        ensures { result ≡ error_number self }
-    {
-        self as u8
-    }
-
-    /// The code that a byte stands for, if it stands for one.
-    pub fn from_number(number: u8) -> Option<ErrorCode>
-        ensures { MatchOption result (is_error_code number ≡ false) (λ e. error_number e ≡ number) }
-    {
-        match number {
-            6 => Some(ErrorCode::MissingCustomerRecord),
-            7 => Some(ErrorCode::MissingParameter),
-            8 => Some(ErrorCode::ParameterOutOfRange),
-            11 => Some(ErrorCode::SystemFailure),
-            12 => Some(ErrorCode::TaskRefused),
-            14 => Some(ErrorCode::UnexpectedComponentSequence),
-            15 => Some(ErrorCode::UnexpectedDataValue),
-            16 => Some(ErrorCode::UnexpectedParameter),
-            _ => None,
-        }
-    }
-
     /// The code's name in the trade.
     pub fn name(self) -> &'static str
         ensures { error_name self ≡ result.now }
@@ -54,5 +33,44 @@ impl ErrorCode {
             ErrorCode::UnexpectedDataValue => "unexpectedDataValue",
             ErrorCode::UnexpectedParameter => "unexpectedParameter",
         }
+    }
+}
+
+/// The byte that stands for the code.
+impl From<ErrorCode> for u8 {
+    ghost from_gives = { λ e number. number ≡ error_number e };
+
+    fn from(code: ErrorCode) -> u8 {
+        code as u8
+    }
+}
+
+/// The code that a byte stands for, if it stands for one.
+impl TryFrom<u8> for ErrorCode {
+    type Error = UnknownNumber;
+
+    ghost try_from_gives = { λ number r. MatchResult r (λ e. error_number e ≡ number) (λ _. is_error_code number ≡ false) };
+
+    fn try_from(number: u8) -> Result<ErrorCode, UnknownNumber> {
+        match number {
+            6 => Ok(ErrorCode::MissingCustomerRecord),
+            7 => Ok(ErrorCode::MissingParameter),
+            8 => Ok(ErrorCode::ParameterOutOfRange),
+            11 => Ok(ErrorCode::SystemFailure),
+            12 => Ok(ErrorCode::TaskRefused),
+            14 => Ok(ErrorCode::UnexpectedComponentSequence),
+            15 => Ok(ErrorCode::UnexpectedDataValue),
+            16 => Ok(ErrorCode::UnexpectedParameter),
+            _ => Err(UnknownNumber),
+        }
+    }
+}
+
+/// Shows the code's name.
+impl fmt::Display for ErrorCode {
+    ghost output = { λ e. Some (error_name e) };
+
+    fn fmt<W: fmt::Write>(&self, f: &mut fmt::Formatter<W>) -> fmt::Result {
+        f.pad(self.name())
     }
 }

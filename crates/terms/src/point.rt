@@ -1,11 +1,12 @@
 //! Detection points: the places in a call at which it can be stopped or watched.
-ghost use Rattle.std.specs.Prelude.{◌≡◌, false, MatchOption, ◌==◌};
+ghost use Rattle.std.specs.Prelude.{◌≡◌, false, Some, MatchResult};
 ghost use Rattle.terms.specs.Points.{is_point, point_name, point_number};
-ghost use Rattle.std.specs.Cmp.Rules.{comparing};
-ghost use Rattle.std.proofs.Common.{rules};
+
+use crate::unknown_number::UnknownNumber;
+use std::fmt;
 
 /// A detection point. Those from 1 to 10 lie in the calling half of a call, those from 12 on in the called half.
-#[derive(Clone, Copy, Eq)]
+#[derive(Clone, Copy, PartialEq, Eq, Debug)]
 pub enum Point {
     OrigAttemptAuthorized = 1,
     CollectedInfo = 2,
@@ -27,39 +28,6 @@ pub enum Point {
 }
 
 impl Point {
-    /// The point's number.
-    pub fn number(self) -> u8
-        ensures { result ≡ point_number self }
-    {
-        self as u8
-    }
-
-    /// The point of a number, if there is one.
-    pub fn from_number(number: u32) -> Option<Point>
-        ensures { MatchOption result (is_point number ≡ false) (λ p. point_number p ≡ number) }
-    {
-        match number {
-            1 => Some(Point::OrigAttemptAuthorized),
-            2 => Some(Point::CollectedInfo),
-            3 => Some(Point::AnalyzedInformation),
-            4 => Some(Point::RouteSelectFailure),
-            5 => Some(Point::OCalledPartyBusy),
-            6 => Some(Point::ONoAnswer),
-            7 => Some(Point::OAnswer),
-            8 => Some(Point::OMidCall),
-            9 => Some(Point::ODisconnect),
-            10 => Some(Point::OAbandon),
-            12 => Some(Point::TermAttemptAuthorized),
-            13 => Some(Point::TCalledPartyBusy),
-            14 => Some(Point::TNoAnswer),
-            15 => Some(Point::TAnswer),
-            16 => Some(Point::TMidCall),
-            17 => Some(Point::TDisconnect),
-            18 => Some(Point::TAbandon),
-            _ => None,
-        }
-    }
-
     /// The point's name in the trade.
     pub fn name(self) -> &'static str
         ensures { point_name self ≡ result.now }
@@ -86,13 +54,50 @@ impl Point {
     }
 }
 
-/// Two points are equal where their numbers are.
-impl PartialEq for Point {
-    ghost eq = { λ p q. point_number p == point_number q };
+/// The point's number.
+impl From<Point> for u8 {
+    ghost from_gives = { λ p number. number ≡ point_number p };
 
-    ghost laws = { Prim.search (comparing, rules) };
+    fn from(point: Point) -> u8 {
+        point as u8
+    }
+}
 
-    fn eq(&self, other: &Point) -> bool {
-        self.number() == other.number()
+/// The point of a number, if there is one.
+impl TryFrom<u32> for Point {
+    type Error = UnknownNumber;
+
+    ghost try_from_gives = { λ number r. MatchResult r (λ p. point_number p ≡ number) (λ _. is_point number ≡ false) };
+
+    fn try_from(number: u32) -> Result<Point, UnknownNumber> {
+        match number {
+            1 => Ok(Point::OrigAttemptAuthorized),
+            2 => Ok(Point::CollectedInfo),
+            3 => Ok(Point::AnalyzedInformation),
+            4 => Ok(Point::RouteSelectFailure),
+            5 => Ok(Point::OCalledPartyBusy),
+            6 => Ok(Point::ONoAnswer),
+            7 => Ok(Point::OAnswer),
+            8 => Ok(Point::OMidCall),
+            9 => Ok(Point::ODisconnect),
+            10 => Ok(Point::OAbandon),
+            12 => Ok(Point::TermAttemptAuthorized),
+            13 => Ok(Point::TCalledPartyBusy),
+            14 => Ok(Point::TNoAnswer),
+            15 => Ok(Point::TAnswer),
+            16 => Ok(Point::TMidCall),
+            17 => Ok(Point::TDisconnect),
+            18 => Ok(Point::TAbandon),
+            _ => Err(UnknownNumber),
+        }
+    }
+}
+
+/// Shows the point's name.
+impl fmt::Display for Point {
+    ghost output = { λ p. Some (point_name p) };
+
+    fn fmt<W: fmt::Write>(&self, f: &mut fmt::Formatter<W>) -> fmt::Result {
+        f.pad(self.name())
     }
 }

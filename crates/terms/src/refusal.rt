@@ -1,15 +1,13 @@
 //! Refusals: why an input is not taken.
-ghost use Rattle.std.specs.Prelude.{◌≡◌, Some, ◌==◌};
+ghost use Rattle.std.specs.Prelude.{◌≡◌, Some};
 ghost use Rattle.terms.specs.Refusals.{refusal_number, refusal_error, refusal_meaning};
-ghost use Rattle.std.specs.Cmp.Rules.{comparing};
-ghost use Rattle.std.proofs.Common.{rules};
 
 use crate::error_code::ErrorCode;
 use std::error::Error;
 use std::fmt;
 
 /// The first fault of an input. What is refused changes nothing.
-#[derive(Clone, Copy, Eq, Debug)]
+#[derive(Clone, Copy, PartialEq, Eq, Debug)]
 pub enum Refusal {
     Room = 1,
     FrameLength = 2,
@@ -23,13 +21,6 @@ pub enum Refusal {
 }
 
 impl Refusal {
-    /// The refusal's number.
-    pub fn number(self) -> u8
-        ensures { result ≡ refusal_number self }
-    {
-        self as u8
-    }
-
     /// The error code of the answer to a frame that was refused so.
     pub fn error_code(self) -> Option<ErrorCode>
         ensures { result ≡ refusal_error self }
@@ -65,14 +56,12 @@ impl Refusal {
     }
 }
 
-/// Two refusals are equal where their numbers are.
-impl PartialEq for Refusal {
-    ghost eq = { λ d e. refusal_number d == refusal_number e };
+/// The refusal's number.
+impl From<Refusal> for u8 {
+    ghost from_gives = { λ e number. number ≡ refusal_number e };
 
-    ghost laws = { Prim.search (comparing, rules) };
-
-    fn eq(&self, other: &Refusal) -> bool {
-        self.number() == other.number()
+    fn from(refusal: Refusal) -> u8 {
+        refusal as u8
     }
 }
 

@@ -1,11 +1,11 @@
-use Rattle.std.proofs.Common.{◌≡◌}
-use Rattle.std.proofs.lemmas.Slice.Eq.{slice_eq-Decides}
-use Rattle.frame.specs.Format.{frame_fault, wire}
-use Rattle.frame_check.proofs.Again.{written_decides}
+use Rattle.std.proofs.Common.{◌≡◌, ◌↔◌, IsTrue, take, sym, ap, ◌∙◌, rules}
+use Rattle.std.proofs.lemmas.List.{take_at}
+use Rattle.frame.specs.Format.{wire}
 use Rattle.frame_check.proofs.writes_as.Goals as goal
-use Rattle.std.proofs.lemmas.Bool.Decides.{Decides-eqb}
 
 pub returns-in-Ok : goal.returns-in-Ok
 returns-in-Ok c =
     let w = c.in-Ok.ensures.writes in
-    written_decides (frame_fault c.args.frame.now ≡ 0) (wire c.args.frame.now) _ c.write.new.out c.args.bytes.now c.in-Ok.n c.eq.result w.0 w.1 w.2 (slice_eq-Decides Decides-eqb _ _ _ c.eq.ensures)
+    let front : take c.in-Ok.n c.write.new.out ≡ wire c.args.frame.now = ap (take c.in-Ok.n) w.2 ∙ take_at (wire c.args.frame.now) _ c.in-Ok.n (sym w.1) in
+    let same : IsTrue c.eq.result ↔ (take c.in-Ok.n c.write.new.out ≡ c.args.bytes.now) = search rules in
+    (λ t. (w.0, sym front ∙ same.0 t), λ h. same.1 (front ∙ h.1))

@@ -1,18 +1,19 @@
-use Rattle.std.proofs.Common.{◌∙◌, arith, length-set}
-use Rattle.frame.proofs.Spelling.{read_more, spelt_step, spelt_stop, all_read}
+use Rattle.std.proofs.Common.{◌≡◌, [], ◌∷◌, ◌++◌, get_or, length, ap, arith, rules, length-append}
+use Rattle.terms.specs.Points.{point_number}
+use Rattle.terms.specs.ShortLists.{elements}
+use Rattle.frame.specs.Items.{mode_number}
+use Rattle.frame.proofs.Spelling.{read_more, left_more}
 use Rattle.frame.proofs.arguments.spelt_items.Goals as goal
 
-pub returns-in_err-items : goal.returns-in_err-items
-returns-in_err-items c =
-    rw c.from_residual.ensures (spelt_stop c.args.bytes.now c.loop-i.i (omega arith) c.loop-i.invariant.2 c.in_err-items.ensures)
-
-pub loop-i-preserved : goal.loop-i-preserved
-loop-i-preserved c =
-    let x = c.in_ok-items.ensures in (
-      length-set _ _ _ ∙ c.loop-i.invariant.0,
-      read_more c.args.bytes.now c.loop-i.i (omega arith) c.loop-i.items _ (omega arith) x.0 x.1 c.loop-i.invariant.1,
-      spelt_step c.args.bytes.now c.loop-i.i (omega arith) c.loop-i.invariant.2 _ x.0 x.1,
-    )
-
-pub returns : goal.returns
-returns c = all_read c.args.bytes.now c.loop-i.items c.loop-i.i c.new.result _ c.loop-i.invariant.0 (omega arith) c.requires.0 c.requires.1 c.loop-i.invariant.1 c.new.ensures
+pub loop-numbers-preserved : goal.loop-numbers-preserved
+loop-numbers-preserved c =
+    let two = c.in-Some.ensures.cases in
+    let x = c.in_ok-item.item in
+    let pushed : elements c.push.new.self ≡ elements c.loop-numbers.items ++ x ∷ [] = search rules in
+    let p : point_number x.point ≡ get_or c.in-Some.numbers.now 0 0 = search rules in
+    let m : mode_number x.mode ≡ get_or c.in-Some.numbers.now 1 0 = search rules in
+    record {
+      read = read_more _ _ _ _ _ _ _ two.0 two.1 two.2 pushed p m c.loop-numbers.invariant.read;
+      left = left_more c.args.bytes.now c.loop-numbers.rest.now _ c.in-Some.others.now _ _ _ two.0 two.1 two.2 pushed p m c.loop-numbers.invariant.left;
+      size = omega (arith, two.2, ap length pushed, length-append (elements c.loop-numbers.items) (x ∷ []), c.loop-numbers.invariant.size);
+    }

@@ -1,6 +1,9 @@
-use Rattle.std.proofs.Common.{◌≡◌, drop}
+use Rattle.std.proofs.Common.{◌≡◌, length}
 use Rattle.frame.specs.Items.{item_bytes, spelt, some_twice}
 use Rattle.frame.proofs.check.some_twice.Given as goal
 
-abbrev pub invariant-loop-i : goal.invariant-loop-i
-invariant-loop-i l = some_twice (spelt (item_bytes (drop l.i l.items))) ≡ some_twice (spelt (item_bytes l.items))
+abbrev pub invariant-loop-item : goal.invariant-loop-item
+invariant-loop-item l = some_twice (spelt (item_bytes l.rest)) ≡ some_twice (spelt (item_bytes l.items))
+
+abbrev pub decreases-loop-item : goal.decreases-loop-item
+decreases-loop-item l = length l.rest

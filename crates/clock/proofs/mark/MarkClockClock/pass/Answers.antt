@@ -3,7 +3,7 @@ use mathlib.Core.List.{map-map}
 use Rattle.clock.specs.Meaning.{one_tick_less}
 use Rattle.clock.specs.Marks.{count_after, until_mark}
 use Rattle.clock.proofs.Kept.{changes}
-use Rattle.clock.proofs.Mapped.{map-from_IsMapOf}
+use Rattle.terms.proofs.Mapped.{map-from_IsMapOf}
 use Rattle.clock.proofs.mark.MarkClockClock.pass.Goals as goal
 use Rattle.clock.proofs.mark.MarkClockClock.pass.Goals.{After-map-self}
 

@@ -1,0 +1,79 @@
+//! Making short lists and reading them.
+ghost use Rattle.std.specs.Prelude.{◌≡◌, ◌<◌, ◌≤◌, ◌++◌, [], ◌∷◌, length, drop, MatchOption, MatchResult};
+ghost use Rattle.terms.specs.ShortLists as spec;
+ghost use Rattle.terms.specs.ShortLists.{elements};
+
+use super::{Blank, Full, ShortList};
+
+impl Blank for u8 {
+    ghost use Rattle.std.specs.Prelude.{◌==◌};
+
+    ghost blank = { 0 };
+
+    ghost is_blank = { λ n. n == 0 };
+
+    fn blank() -> u8 {
+        0
+    }
+
+    ghost use Rattle.std.specs.Prelude.{refl};
+    ghost use Rattle.std.proofs.lemmas.Bool.{eqb-true};
+
+    ghost passes = { refl };
+
+    ghost alone = { λ n e. eqb-true n 0 e };
+}
+
+/// Puts the elements at the front.
+fn put_front<T: Copy>(elements: &[T], places: &mut [T])
+    requires { length elements.now ≤ length places.old }
+    ensures { places.new ≡ elements.now ++ drop (length elements.now) places.old }
+{
+    places[..elements.len()].copy_from_slice(elements);
+}
+
+impl<T: Blank, const N: usize> ShortList<T, N> {
+    /// No elements.
+    pub fn empty() -> Self
+        ensures { elements result ≡ [] }
+    {
+        ShortList {
+            count: 0,
+            places: [T::blank(); N],
+        }
+    }
+
+    /// These elements, unless they are more than `N`.
+    pub fn new(elements: &[T]) -> Option<Self>
+        ensures { MatchOption result (N < length elements.now) (λ xs. (length elements.now ≤ N) × (spec.elements xs ≡ elements.now)) }
+    {
+        let count = elements.len();
+        if count > N {
+            return None;
+        }
+        let mut places = [T::blank(); N];
+        put_front(elements, &mut places);
+        Some(ShortList { count, places })
+    }
+
+    /// Puts one more element behind the others; an error, and nothing changes, where there are `N` already.
+    pub fn push(&mut self, element: T) -> Result<(), Full>
+        ensures { MatchResult result (λ _. (length (elements self.old) < N) × (elements self.new ≡ elements self.old ++ element ∷ [])) (λ _. (length (elements self.old) ≡ N) × (self.new ≡ self.old)) }
+    {
+        if self.count >= N {
+            return Err(Full);
+        }
+        self.places[self.count] = element;
+        self.count += 1;
+        Ok(())
+    }
+
+    /// The elements, in their order.
+    pub fn as_slice(&self) -> &[T]
+        ensures elements { result.now ≡ elements self.now }
+        ensures few { length result.now ≤ N }
+    {
+        let places = &self.places[..];
+        &places[..self.count]
+    }
+}
