@@ -21,6 +21,7 @@ fn write_call<H: Host, C: Clock>(
 }
 
 fn write_running<C: Clock>(text: &mut String, clock: &C) -> Result<(), AllocError> {
+    // Over the numbers of the calls themselves, which no list holds.
     for call in 0..CALLS as u8 {
         if let Some(ticks) = clock.left(call) {
             write!(text, " call {call} has {ticks} left;")?;

@@ -68,6 +68,7 @@ impl Operation {
     }
 
     /// The operation's name in the trade.
+    // Beside `Display`: the text itself, for whoever formats nothing.
     pub fn name(&self) -> &'static str
         ensures { operation_name self.now ≡ result.now }
     {

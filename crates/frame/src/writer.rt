@@ -110,6 +110,7 @@ fn put(frame: &Frame, code: Code, out: &mut [u8]) -> usize
 }
 
 /// Writes the frame at the front of `out`, and returns its length; or refuses it, and touches nothing.
+// The caller lends the memory, and so is told how much of it was used: nothing here may run out of any.
 pub fn write(frame: &Frame, out: &mut [u8]) -> Result<usize, Refusal>
     ensures writes { Writes frame.now out.old result out.new }
     ensures one_reading { IfOk result (λ n. ReadsOnlyAs (take n out.new) frame.now) }

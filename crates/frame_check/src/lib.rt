@@ -13,6 +13,7 @@ use terms::refusal::Refusal;
 #[derive(Clone, Copy)]
 pub struct Finding {
     pub frame: Frame,
+    // No flag for a missing frame: one is always there. What was found is kept, as the tool prints it.
     pub same: bool,
 }
 

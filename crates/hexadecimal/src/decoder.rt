@@ -53,6 +53,7 @@ fn put_bytes(text: &[u8], out: &mut [u8]) -> usize
 
 /// Writes the bytes that a text spells at the front of `out`, and returns how many; or says what is wrong with the text,
 /// and touches nothing.
+// The caller lends the memory, and so is told how much of it was used: nothing here may run out of any.
 #[tactic(auto, using(crate::proofs::Others::no_other))]
 pub fn decode(text: &[u8], out: &mut [u8]) -> Result<usize, HexFault>
     ensures decodes { Decodes text.now out.old result out.new }

@@ -15,6 +15,7 @@ pub enum Mode {
 
 impl Mode {
     /// The mode in words.
+    // Beside `Display`: the text itself, for whoever formats nothing.
     pub fn name(self) -> &'static str
         ensures { mode_name self ≡ result.now }
     {

@@ -20,6 +20,7 @@ pub enum ErrorCode {
 
 impl ErrorCode {
     /// The code's name in the trade.
+    // Beside `Display`: the text itself, for whoever formats nothing.
     pub fn name(self) -> &'static str
         ensures { error_name self ≡ result.now }
     {

@@ -29,6 +29,7 @@ pub enum Point {
 
 impl Point {
     /// The point's name in the trade.
+    // Beside `Display`: the text itself, for whoever formats nothing.
     pub fn name(self) -> &'static str
         ensures { point_name self ≡ result.now }
     {
