@@ -79,8 +79,9 @@ fn put_argument(operation: &Operation, out: &mut [u8]) -> usize
 {
     match operation {
         Operation::InitialDpError(error) => put_byte(u8::from(*error), out),
-        Operation::EstablishTemporaryConnection(address) => put_address(address, out),
-        Operation::Connect(address) => put_address(address, out),
+        Operation::EstablishTemporaryConnection(address) | Operation::Connect(address) => {
+            put_address(address, out)
+        }
         Operation::ReleaseCall(cause) => put_byte(*cause, out),
         Operation::RequestReportBcsmEvent(items) => put_items(items.as_slice(), out),
         Operation::ResetTimer(ticks) => put_number(*ticks, out),
