@@ -14,6 +14,7 @@ use terms::table::{at_or, put};
 pub struct MarkClock {
     count: u32,
     marks: [Option<u32>; TIMER_COUNT],
+    // No `impl Model`, for the reason that the clock that counts down gives.
     ghost ranged: { ClockRanges (timed_by count marks) },
 }
 

@@ -13,6 +13,7 @@ pub(crate) fn take_step<H: Host, C: Clock>(host: &mut H, clock: &mut C, step: St
     ensures host { H.hosted host.new ≡ host_after (H.hosted host.old) step }
     ensures clock { C.clocked clock.new ≡ clock_after (H.hosted host.old) (C.clocked clock.old) step }
 {
+    // A match, and no closure for each step: steps are data, which a script lists and `Display` shows.
     match step {
         Step::Hold(call) => {
             host.hold(call);

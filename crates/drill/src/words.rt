@@ -4,30 +4,40 @@ use crate::step::{SCRIPT, Step};
 use clock::Clock;
 use host::{CALLS, Host};
 use std::alloc::{AllocError, Global};
+use std::fmt;
 use std::fmt::Write;
 
-// Functions and no Display, since what is said is of a host and a clock together, neither of which is the drill's.
-fn write_call<H: Host, C: Clock>(
-    text: &mut String,
-    host: &H,
-    clock: &C,
+/// Where a call stands with a host, and what a clock has left of it.
+#[derive_where(Clone, Copy)]
+struct Standing<'a, H, C> {
+    host: &'a H,
+    clock: &'a C,
     call: u8,
-) -> Result<(), AllocError> {
-    let mode = host.mode(call);
-    match clock.left(call) {
-        Some(ticks) => writeln!(text, " {mode}, {ticks} ticks left"),
-        None => writeln!(text, " {mode}, timer stopped"),
+}
+
+impl<H: Host, C: Clock> fmt::Display for Standing<'_, H, C> {
+    fn fmt<W: fmt::Write>(&self, f: &mut fmt::Formatter<W>) -> fmt::Result {
+        let mode = self.host.mode(self.call);
+        match self.clock.left(self.call) {
+            Some(ticks) => write!(f, "{mode}, {ticks} ticks left"),
+            None => write!(f, "{mode}, timer stopped"),
+        }
     }
 }
 
-fn write_running<C: Clock>(text: &mut String, clock: &C) -> Result<(), AllocError> {
-    // Over the numbers of the calls themselves, which no list holds.
-    for call in 0..CALLS as u8 {
-        if let Some(ticks) = clock.left(call) {
-            write!(text, " call {call} has {ticks} left;")?;
+/// The calls that run on a clock.
+#[derive_where(Clone, Copy)]
+struct Running<'a, C>(&'a C);
+
+impl<C: Clock> fmt::Display for Running<'_, C> {
+    fn fmt<W: fmt::Write>(&self, f: &mut fmt::Formatter<W>) -> fmt::Result {
+        for call in 0..CALLS as u8 {
+            if let Some(ticks) = self.0.left(call) {
+                write!(f, " call {call} has {ticks} left;")?;
+            }
         }
+        Ok(())
     }
-    writeln!(text)
 }
 
 /// Plays the script and says in words what each step did.
@@ -45,8 +55,18 @@ pub(crate) fn transcript<H: Host + Drop, C: Clock + Drop>(
             write!(text, " {answer};")?;
         }
         match step.call() {
-            Some(call) => write_call(&mut text, &host, &clock, call)?,
-            None => write_running(&mut text, &clock)?,
+            Some(call) => {
+                let standing = Standing {
+                    host: &host,
+                    clock: &clock,
+                    call,
+                };
+                writeln!(text, " {standing}")?;
+            }
+            None => {
+                let running = Running(&clock);
+                writeln!(text, "{running}")?;
+            }
         }
     }
     Ok(text)

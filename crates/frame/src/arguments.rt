@@ -44,7 +44,7 @@ fn error_code(bytes: &[u8]) -> Result<ErrorCode, Refusal>
     ensures { GivesOr (error_fault bytes.now) (λ v. bytes.now ≡ error_number v ∷ []) result }
 {
     match bytes {
-        [v] => ErrorCode::try_from(*v).or(Err(Refusal::Value)),
+        [v] => ErrorCode::try_from(*v).map_err(|_| Refusal::Value),
         _ => Err(Refusal::ArgumentLength),
     }
 }
@@ -63,11 +63,9 @@ fn ticks(bytes: &[u8]) -> Result<u16, Refusal>
 fn address(bytes: &[u8]) -> Result<Digits, Refusal>
     ensures { GivesOr (address_fault bytes.now) (λ a. address_bytes a ≡ bytes.now) result }
 {
-    let Some((count, ascii)) = bytes.split_first() else {
-        return Err(Refusal::ArgumentLength);
-    };
+    let (count, ascii) = bytes.split_first().ok_or(Refusal::ArgumentLength)?;
     let n = ascii.len();
-    if n < 1 || n > MOST_DIGITS || usize::from(*count) != n {
+    if !(1..=MOST_DIGITS).contains(&n) || usize::from(*count) != n {
         return Err(Refusal::ArgumentLength);
     }
     Digits::from_ascii(ascii).ok_or(Refusal::Value)
@@ -79,6 +77,7 @@ fn spelt_items(bytes: &[u8]) -> Option<ShortList<Item, MOST_ITEMS>>
     ensures { MatchOption result (list_all is_item (spelt bytes.now) ≡ false) (λ xs. item_bytes (elements xs) ≡ bytes.now) }
 {
     let mut items = ShortList::empty();
+    // Not `chunks_exact(..).map(..)` and a `collect`: that answers a collection which can run out of memory.
     let mut rest = bytes;
     while let Some((numbers, others)) = rest.split_first_chunk::<ITEM_SIZE>() {
         let item = Item::try_from((numbers[0], numbers[1])).ok()?;
@@ -93,7 +92,7 @@ fn items(bytes: &[u8]) -> Result<Items, Refusal>
     ensures { GivesOr (items_fault bytes.now) (λ xs. item_bytes (items_in xs) ≡ bytes.now) result }
 {
     let n = bytes.len();
-    if n < ITEM_SIZE || n > MOST_ITEMS * ITEM_SIZE || n % ITEM_SIZE != 0 {
+    if !(ITEM_SIZE..=MOST_ITEMS * ITEM_SIZE).contains(&n) || n % ITEM_SIZE != 0 {
         return Err(Refusal::ArgumentLength);
     }
     let items = spelt_items(bytes).ok_or(Refusal::Value)?;

@@ -17,7 +17,7 @@ fn has_frame_length(bytes: &[u8]) -> bool
     ensures { result ≡ frame_length bytes.now }
 {
     let n = bytes.len();
-    if n < HEAD_SIZE || n > LONGEST_FRAME {
+    if !(HEAD_SIZE..=LONGEST_FRAME).contains(&n) {
         return false;
     }
     usize::from(u16::from_be_bytes([bytes[0], bytes[1]])) + 2 == n

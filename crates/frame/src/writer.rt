@@ -17,8 +17,9 @@ use crate::operation::{Frame, Operation};
 use terms::digits::Digits;
 use terms::refusal::Refusal;
 
-// Each of these asks for its room. An array's type would say it, but of a part that `first_chunk_mut` gives and `unwrap` takes
-// out nothing is known after the borrow, and a `let .. else` would add a way out that is never taken.
+// Each of these asks for its room. An array's type would say it, but an array of their own would be a second buffer, and each
+// byte written twice; and of a part of `out` that `first_chunk_mut` gives and `unwrap` takes out nothing is known after the
+// borrow, while a `let .. else` would add a way out that is never taken.
 
 /// Writes how many digits there are, then the digits; returns the bytes written.
 fn put_address(address: &Digits, out: &mut [u8]) -> usize
@@ -39,7 +40,7 @@ fn put_items(items: &[Item], out: &mut [u8]) -> usize
     ensures puts { Puts (item_bytes items.now) out.old result out.new }
     ensures few { result ≤ longest_argument }
 {
-    // By index: after a `chunks_exact_mut` nothing but the length is known.
+    // A cursor: what a `zip` of the items with `out.chunks_exact_mut(2)` leaves in `out` is not known after the loop.
     let mut n = 0;
     for item in items {
         out[n] = u8::from(item.point);

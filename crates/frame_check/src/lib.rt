@@ -13,7 +13,7 @@ use terms::refusal::Refusal;
 #[derive(Clone, Copy)]
 pub struct Finding {
     pub frame: Frame,
-    // No flag for a missing frame: one is always there. What was found is kept, as the tool prints it.
+    // Always true, as is proved; the tool prints it.
     pub same: bool,
 }
 
@@ -21,7 +21,9 @@ pub struct Finding {
 pub fn writes_as(frame: &Frame, bytes: &[u8]) -> bool
     ensures { IsTrue result ↔ ((frame_fault frame.now ≡ 0) × (wire frame.now ≡ bytes.now)) }
 {
+    // Memory of a fixed size, and how much `write` used of it: this may not run out of any.
     let mut out = [0; LONGEST_FRAME];
+    // A match: with `is_ok_and` and a closure over the buffer the proof did not close.
     match write(frame, &mut out) {
         Ok(n) => &out[..n] == bytes,
         Err(_) => false,

@@ -10,9 +10,7 @@ fn ask_for_answer(out: &mut [u8]) -> Result<usize, Refusal> {
         point: Point::OAnswer,
         mode: Mode::Notify,
     };
-    let Some(items) = Items::new(&[answer]) else {
-        return Err(Refusal::ArgumentLength);
-    };
+    let items = Items::new(&[answer]).ok_or(Refusal::ArgumentLength)?;
     let frame = Frame {
         dialogue: 7,
         invoke: 1,

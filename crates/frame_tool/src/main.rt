@@ -29,6 +29,7 @@ fn print_bytes(rt: &HostRuntime, bytes: &[u8]) -> io::Result<()> {
 }
 
 fn print_line(rt: &HostRuntime, line: &[u8]) -> io::Result<()> {
+    // Memory of a fixed size, and how much `decode` used of it, as its callers lend it.
     let mut bytes = [0; MOST_BYTES];
     match decode(line, &mut bytes) {
         Ok(n) => print_bytes(rt, &bytes[..n]),

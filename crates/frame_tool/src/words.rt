@@ -1,18 +1,17 @@
 //! Saying in words what a frame is, and why it was refused.
 use frame::{Frame, Item, Operation};
 use std::fmt;
-use terms::error_code::ErrorCode;
 use terms::refusal::Refusal;
 
-/// An error code by its number and its name.
+/// A code or a point by its number and its name.
 #[derive(Clone, Copy)]
-struct Numbered(ErrorCode);
+struct Numbered<T>(T);
 
-impl fmt::Display for Numbered {
+impl<T: Copy + Into<u8> + fmt::Display> fmt::Display for Numbered<T> {
     fn fmt<W: fmt::Write>(&self, f: &mut fmt::Formatter<W>) -> fmt::Result {
-        let code = self.0;
-        let number = u8::from(code);
-        write!(f, "{number} {code}")
+        let number: u8 = self.0.into();
+        let value = self.0;
+        write!(f, "{number} {value}")
     }
 }
 
@@ -24,9 +23,9 @@ impl fmt::Display for Listed<'_> {
     fn fmt<W: fmt::Write>(&self, f: &mut fmt::Formatter<W>) -> fmt::Result {
         for (i, item) in self.0.iter().enumerate() {
             let comma = if i > 0 { "," } else { "" };
-            let (point, mode) = (item.point, item.mode);
-            let number = u8::from(point);
-            write!(f, "{comma} {number} {point} {mode}")?;
+            let point = Numbered(item.point);
+            let mode = item.mode;
+            write!(f, "{comma} {point} {mode}")?;
         }
         Ok(())
     }
@@ -83,12 +82,10 @@ impl fmt::Display for Refused {
         let refusal = self.0;
         let number = u8::from(refusal);
         write!(f, "refused by {number}: {refusal}")?;
-        match refusal.error_code() {
-            Some(code) => {
-                let code = Numbered(code);
-                write!(f, "; answered by {code}")
-            }
-            None => Ok(()),
+        if let Some(code) = refusal.error_code() {
+            let code = Numbered(code);
+            write!(f, "; answered by {code}")?;
         }
+        Ok(())
     }
 }

@@ -41,6 +41,7 @@ fn put_bytes(text: &[u8], out: &mut [u8]) -> usize
     ensures len { length text.now ≡ 2 * result }
     ensures after { out.new ≡ bytes_of text.now ++ drop result out.old }
 {
+    // A cursor: what a `zip` of the pairs with `out.iter_mut()` leaves in `out` is not known after the loop.
     let mut n = 0;
     let mut rest = text;
     while let Some((pair, others)) = rest.split_first_chunk::<2>() {

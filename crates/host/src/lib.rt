@@ -49,6 +49,7 @@ pub trait Host {
         ensures { hosted self.new ≡ holding (hosted self.old) call };
 
     /// Puts a held call on a port or a circuit and records the order, or says no.
+    // A `bool`: a no is an answer like a yes, and there is nothing to tell beside it.
     fn join(&mut self, call: u8, place: Place, order: Order) -> bool
         ensures said { result ≡ can_join (hosted self.old) call place }
         ensures after { hosted self.new ≡ joining (hosted self.old) call place order };

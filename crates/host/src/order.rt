@@ -41,6 +41,7 @@ impl Order {
     }
 
     /// The cause: 0 unless a control point released the call.
+    // No `Option`: in the format a cause of 0 is how an order says that no control point named one.
     pub fn cause(self) -> u8
         ensures { result ≡ order_cause self }
     {

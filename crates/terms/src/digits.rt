@@ -56,9 +56,7 @@ impl fmt::Display for Digits {
     ghost output = { λ d. Some (ascii d) };
 
     fn fmt<W: fmt::Write>(&self, f: &mut fmt::Formatter<W>) -> fmt::Result {
-        match str::from_utf8(self.as_ascii()) {
-            Ok(text) => f.pad(text),
-            Err(_) => Err(fmt::Error),
-        }
+        let text = str::from_utf8(self.as_ascii()).map_err(|_| fmt::Error)?;
+        f.pad(text)
     }
 }

@@ -1,5 +1,5 @@
 //! Refusals: why an input is not taken.
-ghost use Rattle.std.specs.Prelude.{◌≡◌, Some};
+ghost use Rattle.std.specs.Prelude.{◌≡◌, Some, ◌==◌};
 ghost use Rattle.terms.specs.Refusals.{refusal_number, refusal_error, refusal_meaning};
 
 use crate::error_code::ErrorCode;
@@ -21,6 +21,13 @@ pub enum Refusal {
 }
 
 impl Refusal {
+    /// Whether this is that refusal, which is whether the two have one number.
+    pub fn is(self, other: Refusal) -> bool
+        ensures { result ≡ (refusal_number self == refusal_number other) }
+    {
+        self == other
+    }
+
     /// The error code of the answer to a frame that was refused so.
     pub fn error_code(self) -> Option<ErrorCode>
         ensures { result ≡ refusal_error self }

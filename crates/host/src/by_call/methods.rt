@@ -41,6 +41,7 @@ impl CallTable {
     fn in_mode(&self, mode: Mode) -> usize
         ensures { result ≡ in_mode mode (by_call self.now).modes }
     {
+        // The modes first: of a count over the calls the library says nothing of their modes.
         self.calls
             .iter()
             .map(|call| call.mode)

@@ -1,6 +1,5 @@
 //! Making short lists and reading them.
-ghost use Rattle.std.specs.Prelude.{◌≡◌, ◌<◌, ◌≤◌, ◌++◌, [], ◌∷◌, length, drop, MatchOption, MatchResult};
-ghost use Rattle.terms.specs.ShortLists as spec;
+ghost use Rattle.std.specs.Prelude.{◌≡◌, ◌<◌, ◌≤◌, ◌++◌, [], ◌∷◌, length, drop, IfSome, IfNone, OnOk, OnErr};
 ghost use Rattle.terms.specs.ShortLists.{elements};
 
 use super::{Blank, Full, ShortList};
@@ -24,12 +23,12 @@ impl Blank for u8 {
     ghost alone = { λ n e. eqb-true n 0 e };
 }
 
-/// Puts the elements at the front.
-fn put_front<T: Copy>(elements: &[T], places: &mut [T])
-    requires { length elements.now ≤ length places.old }
-    ensures { places.new ≡ elements.now ++ drop (length elements.now) places.old }
+/// Puts the items at the front.
+fn put_front<T: Copy>(items: &[T], places: &mut [T])
+    requires { length items.now ≤ length places.old }
+    ensures { places.new ≡ items.now ++ drop (length items.now) places.old }
 {
-    places[..elements.len()].copy_from_slice(elements);
+    places[..items.len()].copy_from_slice(items);
 }
 
 impl<T: Blank, const N: usize> ShortList<T, N> {
@@ -43,22 +42,24 @@ impl<T: Blank, const N: usize> ShortList<T, N> {
         }
     }
 
-    /// These elements, unless they are more than `N`.
-    pub fn new(elements: &[T]) -> Option<Self>
-        ensures { MatchOption result (N < length elements.now) (λ xs. (length elements.now ≤ N) × (spec.elements xs ≡ elements.now)) }
+    /// These items, unless they are more than `N`.
+    pub fn new(items: &[T]) -> Option<Self>
+        ensures few { IfSome result (λ xs. (length items.now ≤ N) × (elements xs ≡ items.now)) }
+        ensures many { IfNone result (N < length items.now) }
     {
-        let count = elements.len();
+        let count = items.len();
         if count > N {
             return None;
         }
         let mut places = [T::blank(); N];
-        put_front(elements, &mut places);
+        put_front(items, &mut places);
         Some(ShortList { count, places })
     }
 
     /// Puts one more element behind the others; an error, and nothing changes, where there are `N` already.
     pub fn push(&mut self, element: T) -> Result<(), Full>
-        ensures { MatchResult result (λ _. (length (elements self.old) < N) × (elements self.new ≡ elements self.old ++ element ∷ [])) (λ _. (length (elements self.old) ≡ N) × (self.new ≡ self.old)) }
+        ensures ok { OnOk result ((length (elements self.old) < N) × (elements self.new ≡ elements self.old ++ element ∷ [])) }
+        ensures err { OnErr result ((length (elements self.old) ≡ N) × (self.new ≡ self.old)) }
     {
         if self.count >= N {
             return Err(Full);
