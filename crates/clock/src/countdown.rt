@@ -1,5 +1,5 @@
 //! A clock that counts down.
-ghost use Rattle.std.specs.Prelude.{◌≡◌};
+ghost use Rattle.std.specs.Prelude.{◌≡◌, map};
 ghost use Rattle.clock.specs.Meaning.{ClockRanges, all_stopped, clock_with, one_tick_less};
 
 use crate::{Clock, TIMER_COUNT, is_time};
@@ -23,6 +23,13 @@ impl CountdownClock {
         CountdownClock {
             left: [None; TIMER_COUNT],
         }
+    }
+
+    /// What is left of each number when a tick passes.
+    fn left_after_tick(&self) -> [Option<u16>; TIMER_COUNT]
+        ensures { result ≡ map one_tick_less self.now.left }
+    {
+        self.left.map(one_tick_less)
     }
 }
 
@@ -57,8 +64,9 @@ impl Clock for CountdownClock {
         put(&mut self.left, number, None);
     }
 
+    #[tactic(auto, using(crate::proofs::Kept::changes))]
     fn pass(&mut self) {
-        self.left = self.left.map(one_tick_less);
+        self.left = self.left_after_tick();
     }
 
     fn left(&self, number: u8) -> Option<u16> {

@@ -1,6 +1,6 @@
 //! A clock of marks.
 ghost use Rattle.std.specs.Prelude.{◌≡◌};
-ghost use Rattle.clock.specs.Meaning.{ClockRanges, all_stopped, one_tick_less};
+ghost use Rattle.clock.specs.Meaning.{ClockRanges, all_stopped, one_tick_less, passing};
 ghost use Rattle.clock.specs.Marks.{count_after, ticks_between, timed_by, until_mark};
 
 use crate::{Clock, TIMER_COUNT, is_time};
@@ -57,6 +57,13 @@ impl MarkClock {
             other => other,
         }
     }
+
+    /// The marks after one more tick.
+    fn marks_after_tick(&self) -> [Option<u32>; TIMER_COUNT]
+        ensures { timed_by (count_after self.now.count 1) result ≡ passing (timed_by self.now.count self.now.marks) }
+    {
+        self.marks.map(|mark| self.mark_after_tick(mark))
+    }
 }
 
 /// Compares marks with the count.
@@ -84,8 +91,9 @@ impl Clock for MarkClock {
         put(&mut self.marks, number, None);
     }
 
+    #[tactic(auto, using(crate::proofs::Kept::changes))]
     fn pass(&mut self) {
-        self.marks = self.marks.map(|mark| self.mark_after_tick(mark));
+        self.marks = self.marks_after_tick();
         self.count = self.count.wrapping_add(1);
     }
 

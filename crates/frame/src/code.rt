@@ -36,7 +36,10 @@ impl From<Code> for u8 {
 impl TryFrom<u8> for Code {
     type Error = UnknownNumber;
 
-    ghost try_from_gives = { λ number r. MatchResult r (λ k. (code_at number ≡ Some k) × (code_number k ≡ number)) (λ _. code_at number ≡ None) };
+    ghost try_from_gives = { λ number r.
+        MatchResult r
+        (λ k. (code_at number ≡ Some k) × (code_number k ≡ number))
+        (λ _. code_at number ≡ None) };
 
     fn try_from(number: u8) -> Result<Code, UnknownNumber> {
         match number {

@@ -32,7 +32,8 @@ impl From<Mode> for u8 {
 impl TryFrom<u8> for Mode {
     type Error = UnknownNumber;
 
-    ghost try_from_gives = { λ number r. MatchResult r (λ m. mode_number m ≡ number) (λ _. is_mode number ≡ false) };
+    ghost try_from_gives = { λ number r.
+        MatchResult r (λ m. mode_number m ≡ number) (λ _. is_mode number ≡ false) };
 
     fn try_from(number: u8) -> Result<Mode, UnknownNumber> {
         match number {
@@ -77,7 +78,10 @@ impl Item {
 impl TryFrom<(u8, u8)> for Item {
     type Error = UnknownNumber;
 
-    ghost try_from_gives = { λ numbers r. MatchResult r (λ x. (point_number x.point ≡ numbers.0) × (mode_number x.mode ≡ numbers.1)) (λ _. is_item numbers ≡ false) };
+    ghost try_from_gives = { λ numbers r.
+        MatchResult r
+        (λ x. (point_number x.point ≡ numbers.0) × (mode_number x.mode ≡ numbers.1))
+        (λ _. is_item numbers ≡ false) };
 
     fn try_from(numbers: (u8, u8)) -> Result<Item, UnknownNumber> {
         let (point, mode) = numbers;

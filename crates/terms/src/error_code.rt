@@ -50,7 +50,8 @@ impl From<ErrorCode> for u8 {
 impl TryFrom<u8> for ErrorCode {
     type Error = UnknownNumber;
 
-    ghost try_from_gives = { λ number r. MatchResult r (λ e. error_number e ≡ number) (λ _. is_error_code number ≡ false) };
+    ghost try_from_gives = { λ number r.
+        MatchResult r (λ e. error_number e ≡ number) (λ _. is_error_code number ≡ false) };
 
     fn try_from(number: u8) -> Result<ErrorCode, UnknownNumber> {
         match number {

@@ -68,7 +68,8 @@ impl From<Point> for u8 {
 impl TryFrom<u32> for Point {
     type Error = UnknownNumber;
 
-    ghost try_from_gives = { λ number r. MatchResult r (λ p. point_number p ≡ number) (λ _. is_point number ≡ false) };
+    ghost try_from_gives = { λ number r.
+        MatchResult r (λ p. point_number p ≡ number) (λ _. is_point number ≡ false) };
 
     fn try_from(number: u32) -> Result<Point, UnknownNumber> {
         match number {

@@ -33,6 +33,7 @@ fn put_front<T: Copy>(items: &[T], places: &mut [T])
 
 impl<T: Blank, const N: usize> ShortList<T, N> {
     /// No elements.
+    #[tactic(auto, using(crate::proofs::Padded::padded_none))]
     pub fn empty() -> Self
         ensures { elements result ≡ [] }
     {
@@ -43,6 +44,7 @@ impl<T: Blank, const N: usize> ShortList<T, N> {
     }
 
     /// These items, unless they are more than `N`.
+    #[tactic(auto, using(crate::proofs::Padded::padded_front))]
     pub fn new(items: &[T]) -> Option<Self>
         ensures few { IfSome result (λ xs. (length items.now ≤ N) × (elements xs ≡ items.now)) }
         ensures many { IfNone result (N < length items.now) }
