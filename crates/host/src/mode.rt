@@ -1,6 +1,6 @@
 //! Where a call stands with its host.
 ghost use Rattle.std.specs.Prelude.{◌≡◌, Some};
-ghost use Rattle.host.specs.Modes.{mode_name, mode_number};
+ghost use Rattle.host.specs.Modes.{mode_name, mode_number, same_mode};
 
 use std::fmt;
 
@@ -14,6 +14,13 @@ pub enum Mode {
 }
 
 impl Mode {
+    /// Whether this is that mode, as `==` says it, which is whether the two have one number.
+    pub fn is(self, other: Mode) -> bool
+        ensures { result ≡ same_mode self other }
+    {
+        self == other
+    }
+
     /// The mode in words.
     // Beside `Display`: the text itself, for whoever formats nothing.
     pub fn name(self) -> &'static str

@@ -1,4 +1,5 @@
 pub mod Mapped
 pub mod Numbered
 pub mod Padded
+pub mod Replaced
 pub mod Tested

@@ -32,10 +32,11 @@ impl Digits {
     pub fn from_ascii(bytes: &[u8]) -> Option<Digits>
         ensures { MatchOption result (are_digits bytes.now ≡ false) (λ d. (are_digits bytes.now ≡ true) × (ascii d ≡ bytes.now)) }
     {
+        // The length first, so that a text which is too long is not read to its end.
+        let digits = ShortList::new(bytes)?;
         if !all_digits(bytes) {
             return None;
         }
-        let digits = ShortList::new(bytes)?;
         Some(Digits { digits })
     }
 

@@ -1,5 +1,5 @@
 //! Detection points: the places in a call at which it can be stopped or watched.
-ghost use Rattle.std.specs.Prelude.{◌≡◌, false, Some, MatchResult};
+ghost use Rattle.std.specs.Prelude.{◌≡◌, false, ◌==◌, Some, MatchResult};
 ghost use Rattle.terms.specs.Points.{is_point, point_name, point_number};
 
 use crate::unknown_number::UnknownNumber;
@@ -28,6 +28,13 @@ pub enum Point {
 }
 
 impl Point {
+    /// Whether this is that point, as `==` says it, which is whether the two have one number.
+    pub fn is(self, other: Point) -> bool
+        ensures { result ≡ (point_number self == point_number other) }
+    {
+        self == other
+    }
+
     /// The point's name in the trade.
     // Beside `Display`: the text itself, for whoever formats nothing.
     pub fn name(self) -> &'static str

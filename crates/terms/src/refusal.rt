@@ -21,7 +21,7 @@ pub enum Refusal {
 }
 
 impl Refusal {
-    /// Whether this is that refusal, which is whether the two have one number.
+    /// Whether this is that refusal, as `==` says it, which is whether the two have one number.
     pub fn is(self, other: Refusal) -> bool
         ensures { result ≡ (refusal_number self == refusal_number other) }
     {
