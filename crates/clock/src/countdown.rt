@@ -24,13 +24,6 @@ impl CountdownClock {
             left: [None; TIMER_COUNT],
         }
     }
-
-    /// What is left of each number when a tick passes.
-    fn left_after_tick(&self) -> [Option<u16>; TIMER_COUNT]
-        ensures { result ≡ map one_tick_less self.now.left }
-    {
-        self.left.map(one_tick_less)
-    }
 }
 
 /// What is left of a number when a tick passes.
@@ -38,6 +31,16 @@ fn one_tick_less(time: Option<u16>) -> Option<u16>
     ensures { result ≡ one_tick_less time }
 {
     time.map(|ticks| ticks.saturating_sub(1))
+}
+
+/// Takes one tick from each number.
+// In place, and not by the array's `map`, which takes four times as long.
+fn take_one_tick(times: &mut [Option<u16>])
+    ensures { times.new ≡ map one_tick_less times.old }
+{
+    for time in times.iter_mut() {
+        *time = one_tick_less(*time);
+    }
 }
 
 /// Counts down.
@@ -66,7 +69,7 @@ impl Clock for CountdownClock {
 
     #[tactic(auto, using(crate::proofs::Kept::changes))]
     fn pass(&mut self) {
-        self.left = self.left_after_tick();
+        take_one_tick(&mut self.left);
     }
 
     fn left(&self, number: u8) -> Option<u16> {

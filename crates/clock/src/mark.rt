@@ -46,23 +46,26 @@ impl MarkClock {
     {
         self.count.wrapping_add(u32::from(ticks))
     }
+}
 
-    /// The mark of a number after one more tick: it moves along with the count where the number has run out.
-    fn mark_after_tick(&self, mark: Option<u32>) -> Option<u32>
-        ensures { until_mark (count_after self.now.count 1) result ≡ one_tick_less (until_mark self.now.count mark) }
-    {
-        // A match says at a glance which marks move; in `map` the same choice would stand a level deeper, in an `if`.
-        match mark {
-            Some(mark) if mark == self.count => Some(self.mark_after(1)),
-            other => other,
-        }
+/// The mark of a number after one more tick: it moves along with the count where the number has run out.
+fn mark_after_tick(count: u32, mark: Option<u32>) -> Option<u32>
+    ensures { until_mark (count_after count 1) result ≡ one_tick_less (until_mark count mark) }
+{
+    // A match says at a glance which marks move; in `map` the same choice would stand a level deeper, in an `if`.
+    match mark {
+        Some(mark) if mark == count => Some(count.wrapping_add(1)),
+        other => other,
     }
+}
 
-    /// The marks after one more tick.
-    fn marks_after_tick(&self) -> [Option<u32>; TIMER_COUNT]
-        ensures { timed_by (count_after self.now.count 1) result ≡ passing (timed_by self.now.count self.now.marks) }
-    {
-        self.marks.map(|mark| self.mark_after_tick(mark))
+/// Moves each mark to where it stands after one more tick.
+// In place, and not by the array's `map`, which takes four times as long; so it takes the count and not the clock.
+fn move_marks(count: u32, marks: &mut [Option<u32>])
+    ensures { timed_by (count_after count 1) marks.new ≡ passing (timed_by count marks.old) }
+{
+    for mark in marks.iter_mut() {
+        *mark = mark_after_tick(count, *mark);
     }
 }
 
@@ -93,7 +96,7 @@ impl Clock for MarkClock {
 
     #[tactic(auto, using(crate::proofs::Kept::changes))]
     fn pass(&mut self) {
-        self.marks = self.marks_after_tick();
+        move_marks(self.count, &mut self.marks);
         self.count = self.count.wrapping_add(1);
     }
 

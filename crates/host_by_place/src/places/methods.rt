@@ -13,6 +13,15 @@ fn vacated(place: Option<u8>, call: u8) -> Option<u8>
     if place == Some(call) { None } else { place }
 }
 
+// The call leaves each place that it is on. In place, and not by the array's `map`, which takes four times as long.
+fn vacate_all(places: &mut [Option<u8>], call: u8)
+    ensures { places.new ≡ map (without call) places.old }
+{
+    for place in places.iter_mut() {
+        *place = vacated(*place, call);
+    }
+}
+
 impl Places {
     /// So many free places, 64 where more are named.
     #[tactic(auto, using(crate::proofs::Seats::kept_new))]
@@ -38,7 +47,7 @@ impl Places {
         ensures calls { self.new.calls ≡ map (without call) self.old.calls }
         ensures total { self.new.total ≡ self.old.total }
     {
-        self.calls = self.calls.map(|place| vacated(place, call));
+        vacate_all(&mut self.calls, call);
     }
 
     // The first free place, if there is one.
