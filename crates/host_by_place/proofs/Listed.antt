@@ -2,6 +2,7 @@
 use Rattle.std.specs.Prelude.{◌≡◌, ◌≢◌, ℕ, zero, suc, ◌+◌, ◌<◌, if◌then◌else◌, ◌∷◌, nat_eq, slice_index_or, slice_set, refl}
 use Rattle.std.proofs.Common.{zero-add, arith}
 use Rattle.std.proofs.Math.Dec.{eqb-suc-suc, eqb-suc-zero, eqb-zero-suc}
+use Rattle.std.proofs.lemmas.List.{set-set}
 use Rattle.std.proofs.lemmas.List.Sums.{sum_by-cons}
 use Rattle.host.specs.Modes.{same_mode}
 use Rattle.host.specs.Meaning.{in_mode}
@@ -54,3 +55,6 @@ pub in_mode_sum : (m : Mode) (n : ℕ) (f : ℕ → Mode) → in_mode m (listing
 unfolding listing sum
 in_mode_sum m zero f = refl
 in_mode_sum m (suc n) f = omega (arith, in_mode_sum m n (λ k. f (suc k)), sum_by-cons (λ x. if same_mode x m then 1 else 0) (f 0) (listing n (λ k. f (suc k))))
+
+-- what is set twice at one place holds the last; a must-fail edit that sets a call aside and then more goes by it
+pub ruleset again = (set-set)
