@@ -10,7 +10,7 @@ use crate::{CALLS, Host, MOST_PLACES, Mode, Order, Place};
 use terms::table::put;
 
 // How many of the calls are in this mode.
-// A loop of its own: the library's `filter` and `count` take three times as long.
+// A loop of its own: the library's `filter` and `count` take nearly four times as long.
 fn count_in(calls: &[Call], mode: Mode) -> usize
     ensures { result ≡ in_mode mode (map (λ c. c.mode) calls.now) }
 {
